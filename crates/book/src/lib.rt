@@ -1,0 +1,6 @@
+// Books: what they mean, the traits that they answer by, and the theory of earliest orders.
+pub mod answer;
+pub mod event;
+pub mod fault;
+pub mod selecting_book;
+pub mod shape_book;
