@@ -1,0 +1,4 @@
+// Book files: reading and checking one, and the books that answer from its bytes.
+pub mod header;
+pub mod reading;
+pub mod table;
