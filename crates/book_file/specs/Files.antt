@@ -3,6 +3,7 @@ use mathlib.Core.Path.{_≡_}
 use mathlib.Core.Bool.{Bool, true, false, cond, not, _&&_}
 use mathlib.Core.List.{List, [], _∷_, _++_}
 use Prim.Native.Nat.{ℕ, zero, suc, _+_, _-_, _*_}
+use denote.Ref.{RefT}
 use lib.Dec.{eqb, leb, ltb}
 use lib.ListN.{drop, getD, length, take}
 use Rattle.std.specs.declared.option.Option.{Option}
@@ -115,8 +116,13 @@ header bs =
 abbrev pub table-at : ℕ → ℕ → List ℕ → Result (List ℕ) BookFault
 table-at bound at xs = unless (first-off (λ x. ltb x bound) at xs) TableEntry xs
 
--- the tables in their order, and what stands behind them
-pub record Tables : Type 0 where
+-- a part of the file that was read, as its bytes
+abbrev pub parted : Result (RefT (List ℕ)) BookFault → Result (List ℕ) BookFault
+parted (Ok r) = Ok (r .now)
+parted (Err e) = Err e
+
+-- the tables in their order
+pub record Rows : Type 0 where
   pub accept : List ℕ
   pub enter : List ℕ
   pub mark : List ℕ
@@ -129,7 +135,7 @@ entries h = h .states * h .columns
 abbrev pub tables-size : Header → ℕ
 tables-size h = h .states + (entries h + (mark-size (h .kind) (entries h) + (entries h + h .states * h .trees)))
 
-abbrev pub tables-at : Header → ℕ → List ℕ → Result Tables BookFault
+abbrev pub tables-at : Header → ℕ → List ℕ → Result Rows BookFault
 tables-at h at bs =
     let at-enter : ℕ = at + h .states in
     let at-mark : ℕ = at-enter + entries h in
@@ -164,7 +170,7 @@ names-at size zero at (b ∷ bs) = Err (ExtraByte at)
 names-at size (suc count) at bs =
     then (name-at size at bs) (λ w. then (names-at size count (at + suc (length w)) (drop (suc (length w)) bs)) (λ ws. Ok (w ∷ ws)))
 
-abbrev pub file-with : Header → Tables → List (List ℕ) → File
+abbrev pub file-with : Header → Rows → List (List ℕ) → File
 file-with h ts names = file (h .kind) (table (h .states) (h .trees) (h .columns) (h .start) (ts .accept) (ts .enter) (ts .up) (ts .side)) (ts .mark) names
 
 -- the header, the tables (whole before any of their entries is looked at), the names
