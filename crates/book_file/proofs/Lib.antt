@@ -1,3 +1,6 @@
 mod Entries
+mod FileRead
 mod FirstOff
+mod NamesRead
 mod TablesRead
+mod Unpacked

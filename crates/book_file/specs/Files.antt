@@ -121,6 +121,11 @@ abbrev pub parted : Result (RefT (List ℕ)) BookFault → Result (List ℕ) Boo
 parted (Ok r) = Ok (r .now)
 parted (Err e) = Err e
 
+-- what was read where a check passed
+abbrev pub passed : {U A : Type 0} → Result U BookFault → A → Result A BookFault
+passed (Ok u) a = Ok a
+passed (Err e) a = Err e
+
 -- the tables in their order
 pub record Rows : Type 0 where
   pub accept : List ℕ

@@ -1,3 +1,5 @@
 pub mod Table
 pub mod Files
+pub mod Laws
+pub mod Names
 pub mod Parts

@@ -11,7 +11,7 @@ pub struct Header {
     pub states: u16,
     pub trees: u16,
     // the tags that the file lists, tag 0 included
-    pub columns: u16,
+    pub columns: u8,
     pub kind: Kind,
     pub start: u16,
 }

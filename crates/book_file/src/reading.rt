@@ -1,16 +1,25 @@
 // Reading a book file from its bytes.
 ghost use mathlib.Core.Path.{_≡_};
-ghost use Prim.Native.Nat.{_+_, _-_, _*_, _^_, _<_, _≤_};
+ghost use Prim.Native.Nat.{suc, _+_, _-_, _*_, _^_, _<_, _≤_};
 ghost use lib.Dec.{ltb};
 ghost use lib.ListN.{drop, length, take};
 ghost use mathlib.Core.Bool.{true};
 ghost use Rattle.std.specs.Vec.{made};
-ghost use Rattle.book_file.specs.Files.{entries, first-off, header, mark-size, parted, table-at, tables-at, tables-size};
-ghost use Rattle.book_file.specs.Parts.{Tables-filled, tables-of};
+ghost use Rattle.book_file.specs.Files.{entries, file-with, first-off, header, mark-size, misspelt, name-at, names-at, parted, passed, reading, table-at, tables-at, tables-size};
+ghost use Rattle.name_bytes.specs.Names.{name-byte};
+ghost use Rattle.book_file.specs.Names.{listed, unpacked};
+ghost use Rattle.book_file.specs.Parts.{Tables-filled, file-of, read-file, rows-of, tables-of};
 ghost use Rattle.book_file.specs.Table.{below};
+use crate::file::BookFile;
+use crate::file::SelectingFile;
+use crate::file::ShapeFile;
 use crate::header::Header;
 use crate::header::Kind;
+use crate::names::Names;
 use book::fault::BookFault;
+use name_bytes::NAME_LIMIT;
+use name_bytes::is_name_byte;
+use name_bytes::is_name_start;
 
 const HEADER: usize = 10;
 
@@ -21,10 +30,13 @@ const TAGS: u8 = 32;
 
 // The header's length, its letters, its version, and then its numbers from the left.
 fn read_header(bytes: &[u8]) -> Result<Header, BookFault>
-    ensures { λ r. ⌜ r ≡ header (now (bytes .entry)) ⌝ }
+    ensures value { λ r. ⌜ r ≡ header (now (bytes .entry)) ⌝ }
+    ensures listed { λ r. ⌜ made r (λ h. 1 ≤ h .columns) ⌝ }
 {
     if bytes.len() < HEADER {
-        return Err(BookFault::ShortHeader { length: bytes.len() });
+        return Err(BookFault::ShortHeader {
+            length: bytes.len(),
+        });
     }
     if bytes[0] != b'S' || bytes[1] != b'E' || bytes[2] != b'L' {
         return Err(BookFault::Letters);
@@ -53,16 +65,24 @@ fn read_header(bytes: &[u8]) -> Result<Header, BookFault>
     if start >= states {
         return Err(BookFault::HeaderNumber { at: 9 });
     }
-    Ok(Header { states: u16::from(states), trees: u16::from(trees), columns: u16::from(columns), kind, start: u16::from(start) })
+    Ok(Header {
+        states: u16::from(states),
+        trees: u16::from(trees),
+        columns,
+        kind,
+        start: u16::from(start),
+    })
 }
 
 // What is left of a file, and the offset at which it begins.
+#[derive(Drop)]
 struct Rest<'a> {
     bytes: &'a [u8],
     at: usize,
 }
 
 // The tables of a file.
+#[derive(Clone, Copy)]
 struct Tables<'a> {
     accept: &'a [u8],
     enter: &'a [u8],
@@ -78,6 +98,33 @@ fn first_not_below(entries: &[u8], bound: u16, at: usize) -> Option<usize>
 {
     'entries: for i in 0..entries.len() {
         if u16::from(entries[i]) >= bound {
+            return Some(at + i);
+        }
+    }
+    None
+}
+
+// The offset of the first byte that a name may not have there, of a name that begins at an offset.
+fn first_bad_byte(name: &[u8], at: usize) -> Option<usize>
+    requires { ⌜ at + length (now name) < 2 ^ 64 ⌝ }
+    ensures { λ r. ⌜ r ≡ misspelt at (now (name .entry)) ⌝ }
+{
+    let Some((first, others)) = name.split_first() else {
+        return None;
+    };
+    if !is_name_start(*first) {
+        return Some(at);
+    }
+    first_no_name_byte(others, at + 1)
+}
+
+// The same of the bytes behind the first.
+fn first_no_name_byte(others: &[u8], at: usize) -> Option<usize>
+    requires { ⌜ at + length (now others) < 2 ^ 64 ⌝ }
+    ensures { λ r. ⌜ r ≡ first-off name-byte at (now (others .entry)) ⌝ }
+{
+    'bytes: for i in 0..others.len() {
+        if !is_name_byte(others[i]) {
             return Some(at + i);
         }
     }
@@ -122,6 +169,7 @@ impl<'a> Rest<'a> {
         ensures value { λ r. ⌜ tables-of r ≡ tables-at header (now (self .entry) .at) (now (now (self .entry) .bytes)) ⌝ }
         ensures filled { λ r. ⌜ made r (Tables-filled header) ⌝ }
         ensures rest { λ r. ⌜ made r (λ _. (now (now (self .exit) .bytes) ≡ drop (tables-size header) (now (now (self .entry) .bytes))) × (now (self .exit) .at ≡ now (self .entry) .at + tables-size header)) ⌝ }
+        ensures left { λ r. ⌜ made r (λ _. length (now (now (self .exit) .bytes)) + tables-size header ≡ length (now (now (self .entry) .bytes))) ⌝ }
     {
         let states = header.states as usize;
         let entries = states * header.columns as usize;
@@ -130,6 +178,123 @@ impl<'a> Rest<'a> {
         let mark = self.table(mark_count(header), header.states)?;
         let up = self.table(entries, header.trees)?;
         let side = self.table(states * header.trees as usize, header.states)?;
-        Ok(Tables { accept, enter, mark, up, side })
+        Ok(Tables {
+            accept,
+            enter,
+            mark,
+            up,
+            side,
+        })
     }
+
+    // The next name of a file of some size: its length, then whether it is whole, then its bytes.
+    fn name(&mut self, size: usize) -> Result<&'a [u8], BookFault>
+        requires { ⌜ now self .at + length (now (now self .bytes)) < 2 ^ 64 ⌝ }
+        ensures value { λ r. ⌜ parted r ≡ name-at size (now (self .entry) .at) (now (now (self .entry) .bytes)) ⌝ }
+        ensures bytes { λ r. ⌜ made r (λ w. now (now (self .exit) .bytes) ≡ drop (suc (length (now w))) (now (now (self .entry) .bytes))) ⌝ }
+        ensures at { λ r. ⌜ made r (λ w. now (self .exit) .at ≡ now (self .entry) .at + suc (length (now w))) ⌝ }
+        ensures left { λ r. ⌜ made r (λ w. length (now (now (self .exit) .bytes)) + suc (length (now w)) ≡ length (now (now (self .entry) .bytes))) ⌝ }
+    {
+        let Some((first, rest)) = self.bytes.split_first() else {
+            return Err(BookFault::CutOff { length: size });
+        };
+        let at = self.at;
+        let length = *first as usize;
+        if length < 1 || length > NAME_LIMIT {
+            return Err(BookFault::NameByte { at });
+        }
+        if length > rest.len() {
+            return Err(BookFault::CutOff { length: size });
+        }
+        let (name, rest) = rest.split_at(length);
+        if let Some(at) = first_bad_byte(name, at + 1) {
+            return Err(BookFault::NameByte { at });
+        }
+        self.bytes = rest;
+        self.at = at + 1 + length;
+        Ok(name)
+    }
+
+    // So many names of a file of some size, and nothing behind them.
+    fn names(&mut self, count: u8, size: usize) -> Result<(), BookFault>
+        requires { ⌜ now self .at + length (now (now self .bytes)) < 2 ^ 64 ⌝ }
+        ensures { λ r. ⌜ passed r (unpacked count (now (now (self .entry) .bytes))) ≡ names-at size count (now (self .entry) .at) (now (now (self .entry) .bytes)) ⌝ }
+    {
+        'names: for _ in 0..count {
+            let _name = self.name(size)?;
+        }
+        if self.bytes.len() > 0 {
+            return Err(BookFault::ExtraByte { at: self.at });
+        }
+        Ok(())
+    }
+}
+
+// The header, then the tables, which are looked at only where all are whole, then the names.
+fn read_parts<'a>(bytes: &'a [u8]) -> Result<BookFile<'a>, BookFault>
+    ensures { λ r. ⌜ read-file r ≡ reading (now (bytes .entry)) ⌝ }
+{
+    let header = read_header(bytes)?;
+    if bytes.len() < HEADER + tables_count(header) {
+        return Err(BookFault::CutOff {
+            length: bytes.len(),
+        });
+    }
+    let (_, behind) = bytes.split_at(HEADER);
+    let mut rest = Rest {
+        bytes: behind,
+        at: HEADER,
+    };
+    let tables = rest.tables(header)?;
+    let names = Names {
+        packed: rest.bytes,
+        count: header.columns - 1,
+    };
+    rest.names(names.count, bytes.len())?;
+    Ok(file_with(header, tables, names))
+}
+
+// The file of a header, tables and names.
+fn file_with<'a>(header: Header, tables: Tables<'a>, names: Names<'a>) -> BookFile<'a>
+    requires { ⌜ length (now (tables .mark)) ≡ mark-size (header .kind) (entries header) ⌝ }
+    ensures { λ r. ⌜ file-of r ≡ file-with header (rows-of (tables .entry)) (listed (names .entry)) ⌝ }
+{
+    let Tables {
+        accept,
+        enter,
+        mark,
+        up,
+        side,
+    } = tables;
+    let shape = ShapeFile {
+        states: header.states,
+        trees: header.trees,
+        columns: header.columns,
+        start: header.start,
+        accept,
+        enter,
+        up,
+        side,
+        names,
+    };
+    match header.kind {
+        Kind::Shape => BookFile::Shape(shape),
+        Kind::Selecting => BookFile::Selecting(SelectingFile { shape, mark }),
+    }
+}
+
+// How many bytes all tables have together.
+fn tables_count(header: Header) -> usize
+    ensures { λ r. ⌜ r ≡ tables-size header ⌝ }
+{
+    let states = header.states as usize;
+    let entries = states * header.columns as usize;
+    states + entries + mark_count(header) + entries + states * header.trees as usize
+}
+
+// The book file in these bytes, or its first fault.
+pub fn read_book<'a>(bytes: &'a [u8]) -> Result<BookFile<'a>, BookFault>
+    ensures { λ r. ⌜ read-file r ≡ reading (now (bytes .entry)) ⌝ }
+{
+    read_parts(bytes)
 }

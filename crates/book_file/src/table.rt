@@ -17,7 +17,7 @@ const TAGS: u8 = 32;
 pub struct TableBook<'a> {
     states: u16,
     trees: u16,
-    columns: u16,
+    columns: u8,
     start: u16,
     accept: &'a [u8],
     enter: &'a [u8],
@@ -51,7 +51,7 @@ impl<'a> TableBook<'a> {
         requires { ⌜ length (now rows) ≡ now self .states * now self .columns ⌝ }
         ensures { λ r. ⌜ r ≡ entry (now (rows .entry)) (now (self .entry) .columns) state (column (now (self .entry) .columns) tag) ⌝ }
     {
-        let listed = u16::from(tag) < self.columns;
+        let listed = tag < self.columns;
         let place = if listed { tag } else { 0 };
         u16::from(rows[state as usize * self.columns as usize + place as usize])
     }

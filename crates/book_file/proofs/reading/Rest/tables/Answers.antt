@@ -1,4 +1,5 @@
 use mathlib.Core.Path.{_≡_, refl, ap, _∙_}
+use native.Mathlib.Omega.{arith}
 use Rattle.book_file.proofs.TablesRead as read
 use Rattle.book_file.proofs.reading.Rest.tables.Needs as need
 
@@ -27,4 +28,5 @@ returns c =
           (c .table .ensures .at) (c .table .ensures .bytes) (c .table-2 .ensures .at) (c .table-2 .ensures .bytes)
           (c .table-3 .ensures .at) (c .table-3 .ensures .bytes) (c .table-4 .ensures .at) (c .table-4 .ensures .bytes)
           _ _ (c .table-5 .ensures .at) (c .table-5 .ensures .bytes);
+      left = omega (arith, c .table .ensures .left, c .table-2 .ensures .left, c .table-3 .ensures .left, c .table-4 .ensures .left, c .table-5 .ensures .left, c .mark-count .ensures);
     }
