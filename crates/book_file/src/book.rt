@@ -7,7 +7,6 @@ ghost use Rattle.book_file.specs.Parts.{shape-tables};
 ghost use Rattle.book_file.specs.Table.{below, filled, no-table};
 use crate::file::SelectingFile;
 use crate::file::ShapeFile;
-use crate::names::Names;
 use crate::reading::first_not_below;
 use crate::table::SelectingTableBook;
 use crate::table::TableBook;
@@ -82,13 +81,6 @@ impl<'a> ShapeFile<'a> {
         }
         whole_book(self)
     }
-
-    // The names of its tags.
-    pub fn names(&self) -> Names<'a>
-        ensures { λ r. ⌜ r ≡ now (self .entry) .names ⌝ }
-    {
-        self.names
-    }
 }
 
 fn is_marked(file: &SelectingFile) -> bool
@@ -112,13 +104,6 @@ impl<'a> SelectingFile<'a> {
             };
         }
         marked_book(self)
-    }
-
-    // The names of its tags.
-    pub fn names(&self) -> Names<'a>
-        ensures { λ r. ⌜ r ≡ now (self .entry) .shape .names ⌝ }
-    {
-        self.shape.names
     }
 }
 

@@ -1,0 +1,3 @@
+// What is printed of a book file: a fact a line, or the refusal.
+pub mod lines;
+pub mod report;
