@@ -8,3 +8,7 @@ pub mod Ranges
 pub mod Tables
 pub mod Fitting
 pub mod Earliest
+pub mod ItemLists
+pub mod Checks
+pub mod History
+pub mod Exchanges

@@ -2,6 +2,8 @@
 ghost use Rattle.book.specs.Levels.{Levels-decide-selected, Levels-decide-accepted};
 ghost use Rattle.book.specs.Tables.{Tables-decide-item, Tables-decide-acceptance};
 ghost use Rattle.book.specs.Earliest.{Always-ending, Items-are-one-of-three, Decisions-last, End-decides, Right-if-due, Right-rule-orders-due, Order-right-if-due, Too-early-is-wrong};
+ghost use Rattle.book.specs.Checks.{One-outcome, Refused-by-topmost, Accepted-stays-sound};
+ghost use Rattle.book.specs.History.{One-history, History-is-sound};
 
 // Reach sets decide, level by level and both ways, what every and what some ending makes of an opened item.
 pub fn levels_decide_selected_stands() -> u8
@@ -83,6 +85,41 @@ pub fn order_right_if_due_stands() -> u8
 // An order of an item that is not due is wrong in some catalogue that the events begin.
 pub fn too_early_is_wrong_stands() -> u8
     ensures { λ _. ⌜ Too-early-is-wrong ⌝ }
+{
+    0
+}
+
+// A call is accepted, or refused with one line, and not both.
+pub fn one_outcome_stands() -> u8
+    ensures { λ _. ⌜ One-outcome ⌝ }
+{
+    0
+}
+
+// A call is refused with the line that is met and has no line above it that is.
+pub fn refused_by_topmost_stands() -> u8
+    ensures { λ _. ⌜ Refused-by-topmost ⌝ }
+{
+    0
+}
+
+// An accepted call breaks no rule of the catalogue.
+pub fn accepted_stays_sound_stands() -> u8
+    ensures { λ _. ⌜ Accepted-stays-sound ⌝ }
+{
+    0
+}
+
+// Calls bring one list of events at most.
+pub fn one_history_stands() -> u8
+    ensures { λ _. ⌜ One-history ⌝ }
+{
+    0
+}
+
+// The events that calls bring break no rule of the catalogue.
+pub fn history_is_sound_stands() -> u8
+    ensures { λ _. ⌜ History-is-sound ⌝ }
 {
     0
 }
