@@ -12,3 +12,6 @@ pub mod ItemLists
 pub mod Checks
 pub mod History
 pub mod Exchanges
+pub mod Exact
+pub mod OneAnswer
+pub mod Runs
