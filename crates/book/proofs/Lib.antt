@@ -15,3 +15,6 @@ pub mod Exchanges
 pub mod Exact
 pub mod OneAnswer
 pub mod Runs
+pub mod Records
+pub mod Telling
+pub mod SomeAnswer

@@ -5,7 +5,7 @@ ghost use Rattle.book.specs.Earliest.{Always-ending, Items-are-one-of-three, D
 ghost use Rattle.book.specs.Checks.{One-outcome, Refused-by-topmost, Accepted-stays-sound};
 ghost use Rattle.book.specs.History.{One-history, History-is-sound};
 ghost use Rattle.book.specs.Shown.{Shown-is-enough};
-ghost use Rattle.book.specs.PromiseLaws.{One-answer, One-run, Answers-agree, Orders-are-the-due};
+ghost use Rattle.book.specs.PromiseLaws.{One-answer, One-run, Answers-agree, Orders-are-the-due, Records-are-true, Some-answer};
 
 // Reach sets decide, level by level and both ways, what every and what some ending makes of an opened item.
 pub fn levels_decide_selected_stands() -> u8
@@ -157,6 +157,20 @@ pub fn answers_agree_stands() -> u8
 // The orders so far are those of just the due items, each once; after the end, of just the selected ones.
 pub fn orders_are_the_due_stands() -> u8
     ensures { λ _. ⌜ Orders-are-the-due ⌝ }
+{
+    0
+}
+
+// Each order record tells its item, the event that opened it and the event at which it became due.
+pub fn records_are_true_stands() -> u8
+    ensures { λ _. ⌜ Records-are-true ⌝ }
+{
+    0
+}
+
+// Where a table fits, any calls have answers that keep the promise.
+pub fn some_answer_stands() -> u8
+    ensures { λ _. ⌜ Some-answer ⌝ }
 {
     0
 }
