@@ -18,3 +18,4 @@ pub mod Runs
 pub mod Records
 pub mod Telling
 pub mod SomeAnswer
+pub mod Watch

@@ -6,6 +6,7 @@ ghost use Rattle.book.specs.Checks.{One-outcome, Refused-by-topmost, Accepted-
 ghost use Rattle.book.specs.History.{One-history, History-is-sound};
 ghost use Rattle.book.specs.Shown.{Shown-is-enough};
 ghost use Rattle.book.specs.PromiseLaws.{One-answer, One-run, Answers-agree, Orders-are-the-due, Records-are-true, Some-answer};
+ghost use Rattle.book.specs.Watch.{Verdicts-mean, One-verdict, End-verdict, One-watch-run, Some-watch-answer, Watch-answers-agree};
 
 // Reach sets decide, level by level and both ways, what every and what some ending makes of an opened item.
 pub fn levels_decide_selected_stands() -> u8
@@ -171,6 +172,48 @@ pub fn records_are_true_stands() -> u8
 // Where a table fits, any calls have answers that keep the promise.
 pub fn some_answer_stands() -> u8
     ensures { λ _. ⌜ Some-answer ⌝ }
+{
+    0
+}
+
+// What a verdict says of the catalogues that the events begin.
+pub fn verdicts_mean_stands() -> u8
+    ensures { λ _. ⌜ Verdicts-mean ⌝ }
+{
+    0
+}
+
+// Events that break no rule have one verdict at most.
+pub fn one_verdict_stands() -> u8
+    ensures { λ _. ⌜ One-verdict ⌝ }
+{
+    0
+}
+
+// After the end the verdict is yes just if the catalogue is accepted.
+pub fn end_verdict_stands() -> u8
+    ensures { λ _. ⌜ End-verdict ⌝ }
+{
+    0
+}
+
+// The same calls of a watch have the same answers throughout.
+pub fn one_watch_run_stands() -> u8
+    ensures { λ _. ⌜ One-watch-run ⌝ }
+{
+    0
+}
+
+// Where a table fits, any calls of a watch have answers that keep the promise.
+pub fn some_watch_answer_stands() -> u8
+    ensures { λ _. ⌜ Some-watch-answer ⌝ }
+{
+    0
+}
+
+// An answer of a watch is Ok just if the call is accepted.
+pub fn watch_answers_agree_stands() -> u8
+    ensures { λ _. ⌜ Watch-answers-agree ⌝ }
 {
     0
 }
