@@ -19,3 +19,4 @@ pub mod Records
 pub mod Telling
 pub mod SomeAnswer
 pub mod Watch
+pub mod Acceptance

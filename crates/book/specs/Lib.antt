@@ -15,3 +15,4 @@ pub mod Promise
 pub mod Shown
 pub mod PromiseLaws
 pub mod Watch
+pub mod Acceptance

@@ -7,6 +7,7 @@ ghost use Rattle.book.specs.History.{One-history, History-is-sound};
 ghost use Rattle.book.specs.Shown.{Shown-is-enough};
 ghost use Rattle.book.specs.PromiseLaws.{One-answer, One-run, Answers-agree, Orders-are-the-due, Records-are-true, Some-answer};
 ghost use Rattle.book.specs.Watch.{Verdicts-mean, One-verdict, End-verdict, One-watch-run, Some-watch-answer, Watch-answers-agree};
+ghost use Rattle.book.specs.Acceptance.{Numbers-of-lines, Tags-and-states, Accepted-calls, Accepted-watch-calls, Calls-are-refused, Watch-calls-are-refused, History-within-limits, Sixty-four-deep};
 
 // Reach sets decide, level by level and both ways, what every and what some ending makes of an opened item.
 pub fn levels_decide_selected_stands() -> u8
@@ -214,6 +215,62 @@ pub fn some_watch_answer_stands() -> u8
 // An answer of a watch is Ok just if the call is accepted.
 pub fn watch_answers_agree_stands() -> u8
     ensures { λ _. ⌜ Watch-answers-agree ⌝ }
+{
+    0
+}
+
+// The refusals of a scan are numbered 1 to 10 down the table.
+pub fn numbers_of_lines_stands() -> u8
+    ensures { λ _. ⌜ Numbers-of-lines ⌝ }
+{
+    0
+}
+
+// Tags are 0 to 31, and a book has at most 64 states.
+pub fn tags_and_states_stands() -> u8
+    ensures { λ _. ⌜ Tags-and-states ⌝ }
+{
+    0
+}
+
+// Just when a call of a scan is accepted.
+pub fn accepted_calls_stands() -> u8
+    ensures { λ _. ⌜ Accepted-calls ⌝ }
+{
+    0
+}
+
+// Just when a call of a watch is accepted.
+pub fn accepted_watch_calls_stands() -> u8
+    ensures { λ _. ⌜ Accepted-watch-calls ⌝ }
+{
+    0
+}
+
+// What a call of a scan is refused with.
+pub fn calls_are_refused_stands() -> u8
+    ensures { λ _. ⌜ Calls-are-refused ⌝ }
+{
+    0
+}
+
+// What a call of a watch is refused with.
+pub fn watch_calls_are_refused_stands() -> u8
+    ensures { λ _. ⌜ Watch-calls-are-refused ⌝ }
+{
+    0
+}
+
+// The events that calls bring stay within the limits.
+pub fn history_within_limits_stands() -> u8
+    ensures { λ _. ⌜ History-within-limits ⌝ }
+{
+    0
+}
+
+// On any book a 64th nested item is accepted, and a 65th refused.
+pub fn sixty_four_deep_stands() -> u8
+    ensures { λ _. ⌜ Sixty-four-deep ⌝ }
 {
     0
 }
