@@ -238,12 +238,20 @@ tally-most b low (suc n) =
     let rest = tally-most b (suc low) n in
     omega arith
 
--- a rising list whose numbers are all in a list without repetition is no longer than it
-pub rising-fewer : (xs ys : List ℕ) (n : ℕ) → Rising 0 xs → Once ys → ((i : ℕ) → In i ys → (0 < i) × (i ≤ n)) → ((i : ℕ) → In i xs → In i ys) → length xs ≤ length ys
-rising-fewer xs ys n r o among sub =
-    let a = tally-rising n 0 xs r (λ i y. let z = among i (sub i y) .1 in omega arith) in
-    let b = tally-once ys n o among in
+-- of two lists without repetition, one that has all its numbers in the other is no longer
+pub once-fewer : (xs ys : List ℕ) (n : ℕ) → Once xs → Once ys → ((i : ℕ) → In i ys → (0 < i) × (i ≤ n)) → ((i : ℕ) → In i xs → In i ys) → length xs ≤ length ys
+once-fewer xs ys n o p among sub =
+    let a = tally-once xs n o (λ i y. among i (sub i y)) in
+    let b = tally-once ys n p among in
     let c = tally-more (mem xs) (mem ys) 0 n (λ i y. in-mem ys i (sub i (mem-in xs i y))) in
+    omega arith
+
+pub counts-fewer : (P Q : ℕ → Type 0) (k l n : ℕ) → Counts P k → Counts Q l → ((i : ℕ) → P i → Q i) → ((i : ℕ) → Q i → (0 < i) × (i ≤ n)) → k ≤ l
+counts-fewer P Q k l n c d sub among =
+    let a = once-fewer (c .0) (d .0) n (rising-once 0 (c .0) (c .1 .0)) (rising-once 0 (d .0) (d .1 .0))
+    (λ i y. among i (d .1 .1 i .0 y)) (λ i y. d .1 .1 i .1 (sub i (c .1 .1 i .0 y))) in
+    let e = c .2 in
+    let f = d .2 in
     omega arith
 
 -- a kind whose items are numbered up to n has at most n

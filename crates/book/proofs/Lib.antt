@@ -20,3 +20,4 @@ pub mod Telling
 pub mod SomeAnswer
 pub mod Watch
 pub mod Acceptance
+pub mod Totals
