@@ -2,7 +2,7 @@
 use mathlib.Core.Path.{_≡_}
 use mathlib.Core.Bool.{Bool, true, false}
 use mathlib.Core.List.{List, [], _∷_, _++_, map}
-use mathlib.Core.Logic.{_↔_}
+use mathlib.Core.Logic.{_↔_, _⊎_}
 use Prim.Native.Nat.{ℕ, suc, _+_, _≤_}
 use lib.ListN.{length}
 use Rattle.std.specs.declared.result.Result.{Result}
@@ -16,6 +16,7 @@ use Rattle.book.specs.Catalogue.{nest, over, Sound, opened}
 use Rattle.book.specs.Machines.{Selecting, Lawful, LawfulMarks, selected}
 use Rattle.book.specs.Orders.{Due, Dropped, Held}
 use Rattle.book.specs.Tables.{Fits}
+use Rattle.book.specs.Earliest.{Order-right}
 use Rattle.book.specs.ItemLists.{In, Once, Counts}
 use Rattle.book.specs.Checks.{Accepts, Refuses}
 use Rattle.book.specs.History.{Events-so-far}
@@ -99,6 +100,18 @@ Each P (r ∷ rs) = P r × Each P rs
 abbrev pub Records-are-true : Type 0
 Records-are-true = (m : Selecting) (xs : List Exchange) (h : List Event) → Promise m xs → Events-so-far m (map call-of xs) h →
     Each (λ r. Opens-at h (r .item) (r .opened) × Due-at m h (r .item) (r .ordered)) (orders-of xs)
+
+-- Earliest --------------------------------------------------------------------------------------------------------
+
+abbrev pub Has : (Order → Type 0) → List Order → Type 0
+Has P [] = ⊥
+Has P (r ∷ rs) = P r ⊎ Has P rs
+
+-- Whoever gives a right order after some of the events so far, by whatever rule, gives it no earlier: the item was
+-- ordered at one of those events.
+abbrev pub None-is-earlier : Type 0
+None-is-earlier = (m : Selecting) (xs : List Exchange) (h : List Event) → Promise m xs → Events-so-far m (map call-of xs) h →
+    (p d : List Event) (i : ℕ) → h ≡ p ++ d → Order-right m p i → Has (λ r. (r .item ≡ i) × (r .ordered ≤ length p)) (orders-of xs)
 
 -- Totals and lists ------------------------------------------------------------------------------------------------
 

@@ -5,7 +5,7 @@ ghost use Rattle.book.specs.Earliest.{Always-ending, Items-are-one-of-three, D
 ghost use Rattle.book.specs.Checks.{One-outcome, Refused-by-topmost, Accepted-stays-sound};
 ghost use Rattle.book.specs.History.{One-history, History-is-sound};
 ghost use Rattle.book.specs.Shown.{Shown-is-enough};
-ghost use Rattle.book.specs.PromiseLaws.{One-answer, One-run, Answers-agree, Orders-are-the-due, Records-are-true, Some-answer, Totals-are-true, Lists-keep-length};
+ghost use Rattle.book.specs.PromiseLaws.{One-answer, One-run, Answers-agree, Orders-are-the-due, Records-are-true, Some-answer, Totals-are-true, Lists-keep-length, None-is-earlier};
 ghost use Rattle.book.specs.Watch.{Verdicts-mean, One-verdict, End-verdict, One-watch-run, Some-watch-answer, Watch-answers-agree};
 ghost use Rattle.book.specs.Acceptance.{Numbers-of-lines, Tags-and-states, Accepted-calls, Accepted-watch-calls, Calls-are-refused, Watch-calls-are-refused, History-within-limits, Sixty-four-deep};
 
@@ -285,6 +285,13 @@ pub fn totals_are_true_stands() -> u8
 // No call orders more than 129 items, and no list changes its length.
 pub fn lists_keep_length_stands() -> u8
     ensures { λ _. ⌜ Lists-keep-length ⌝ }
+{
+    0
+}
+
+// Whoever gives a right order, by whatever rule, gives it no earlier than a scan that keeps the promise.
+pub fn none_is_earlier_stands() -> u8
+    ensures { λ _. ⌜ None-is-earlier ⌝ }
 {
     0
 }
