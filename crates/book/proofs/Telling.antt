@@ -18,12 +18,14 @@ use Rattle.book.specs.Orders.{Held}
 use Rattle.book.specs.Tables.{Fits}
 use Rattle.book.specs.ItemLists.{Lists, Counts}
 use Rattle.book.specs.Checks.{scan-lines, watch-lines, Shared-met, Overfull, Met, None-met, Topmost, Accepts, Refuses, Watch-accepts, Watch-refuses}
+use Rattle.book.specs.History.{Bring, event-of, itself, Some-history}
 use Rattle.book.proofs.Nesting.{within-not-over, within-not-broken}
 use Rattle.book.proofs.Steps.{nest-more}
 use Rattle.book.proofs.Earliest.{is-held}
 use Rattle.book.proofs.ItemLists.{listed, counts-same}
 use Rattle.book.proofs.Exchanges.{cons-not-nil}
-use Rattle.book.proofs.Checks.{Told, some-outcome}
+use Rattle.book.proofs.Checks.{Told, some-outcome, accepted-sound, watch-accepted-sound}
+use Rattle.book.proofs.History.{sound-none}
 
 -- a fact, or not
 abbrev pub Either : Type 0 → Type 0
@@ -140,3 +142,21 @@ module _ (m : Selecting) (reach : ℕ → ℕ → Bool) (law : Lawful (m .shape)
 
     pub scan-outcome : (e : Event) → ((r : Refusal) × Refuses m h room e r) ⊎ Accepts m h room e
     scan-outcome e = some-outcome (Met m h room e) scan-lines (scan-told e)
+
+-- Histories -------------------------------------------------------------------------------------------------------
+
+some-events : {C : Type 0} (event : C → Event) (accepts : List Event → C → Type 0) (refuses : List Event → C → Refusal → Type 0)
+    → ((h : List Event) (c : C) → Sound h → ((r : Refusal) × refuses h c r) ⊎ accepts h c) → ((h : List Event) (c : C) → Sound h → accepts h c → Sound (h ++ (event c ∷ [])))
+    → (h : List Event) (cs : List C) → Sound h → (g : List Event) × Bring event accepts refuses h cs g
+some-events event accepts refuses outcome keep h [] s = (h, refl)
+some-events event accepts refuses outcome keep h (c ∷ cs) s = elim (outcome h c s) [
+  | inl r ↦ (let g = some-events event accepts refuses outcome keep h cs s in (g .0, inr (r, g .1)))
+  | inr ok ↦ (let g = some-events event accepts refuses outcome keep (h ++ (event c ∷ [])) cs (keep h c s ok) in (g .0, inl (ok, g .1)))
+]
+
+pub some-history : Some-history
+some-history = (
+  λ m reach law mark-law fits calls. some-events event-of (λ g c. Accepts m g (c .room) (c .event)) (λ g c r. Refuses m g (c .room) (c .event) r)
+      (λ h c s. scan-outcome m reach law mark-law fits h (c .room) s (c .event)) (λ h c. accepted-sound m h (c .room) (c .event)) [] calls sound-none,
+  λ m calls. some-events itself (Watch-accepts m) (Watch-refuses m) (λ h e s. watch-outcome m h e s) (watch-accepted-sound m) [] calls sound-none,
+)

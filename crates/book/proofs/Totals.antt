@@ -22,7 +22,7 @@ use Rattle.book.specs.ItemLists.{In, Once, Lists, Counts}
 use Rattle.book.specs.Checks.{Accepts}
 use Rattle.book.specs.History.{Events-so-far}
 use Rattle.book.specs.Promise.{Exchange, call-of, orders-of, with-orders, order, item-of, Newly-due, Fulfilled, Answered, Keeps, Promise}
-use Rattle.book.specs.PromiseLaws.{with-event, events-of, Answered-ok, Totals-are-true, Lists-keep-length}
+use Rattle.book.specs.PromiseLaws.{with-event, events-of, Answered-ok, Totals-are-true, Lists-are-kept}
 use Rattle.book.specs.Shown.{Exact, Just-due}
 use Rattle.book.proofs.Steps.{opened-more}
 use Rattle.book.proofs.Earliest.{due-opened, dropped-on, not-two, not-none}
@@ -162,6 +162,19 @@ fits-list m h given x a ex f k =
     let d = k .orders .2 in
     omega arith
 
+drop-front : {A : Type 0} (xs ys : List A) → drop (length xs) (xs ++ ys) ≡ ys
+drop-front [] ys = refl
+drop-front (x ∷ xs) ys = drop-front xs ys
+
+behind-kept : (m : Selecting) (h : List Event) (given : List Order) (x : Exchange) (a : Totals) → Fulfilled m h given x a → drop (a .orders) (x .later) ≡ drop (a .orders) (x .before)
+behind-kept m h given x a k =
+    let items : List ℕ = k .orders .0 in
+    let now : List Event = h ++ (x .call ∷ []) in
+    ap (λ (n : ℕ). drop n (x .later)) (k .orders .2 ∙ sym (length-map items (order now)))
+    ∙ ap (drop (length (map (order now) items))) (k .orders .3)
+    ∙ drop-front (map (order now) items) (drop (length items) (x .before))
+    ∙ ap (λ (n : ℕ). drop n (x .before)) (sym (k .orders .2))
+
 keeps-length : (m : Selecting) (h : List Event) (given : List Order) (x : Exchange) (a : Result Totals Refusal) → Exact m h given → Few-held m h → Answered m h given x a → length (x .later) ≡ length (x .before)
 keeps-length m h given x (Ok a) ex f k =
     let items : List ℕ = k .orders .0 in
@@ -176,13 +189,13 @@ keeps-length m h given x (Ok a) ex f k =
     omega arith
 keeps-length m h given x (Err r) ex f k = ap length (k .1)
 
-pub lists-keep-length : Lists-keep-length
-lists-keep-length = (
+pub lists-are-kept : Lists-are-kept
+lists-are-kept = (
   λ m xs ys x a p ok.
       let zs : List Exchange = ok .0 .0 in
       let e : xs ≡ ys ++ (x ∷ zs) = ok .0 .1 in
       let k : Answered m (events-of ys) (orders-of ys) x (Ok a) = subst (Answered m (events-of ys) (orders-of ys) x) (ok .1) (keeps-here m xs ys x zs p e) in
-      fits-list m (events-of ys) (orders-of ys) x a (exact-before m xs ys x zs p e) (few-held m ys (events-of ys) (before m xs ys x zs p e) (events-before m xs ys x zs p e)) k,
+      (fits-list m (events-of ys) (orders-of ys) x a (exact-before m xs ys x zs p e) (few-held m ys (events-of ys) (before m xs ys x zs p e) (events-before m xs ys x zs p e)) k, behind-kept m (events-of ys) (orders-of ys) x a k),
   λ m xs ys x zs p e.
       keeps-length m (events-of ys) (orders-of ys) x (x .answer) (exact-before m xs ys x zs p e) (few-held m ys (events-of ys) (before m xs ys x zs p e) (events-before m xs ys x zs p e)) (keeps-here m xs ys x zs p e),
 )

@@ -1,12 +1,14 @@
 -- The events so far: which events a list of calls brings, from the book's meaning, the calls and their lists' lengths.
 use mathlib.Core.Path.{_≡_}
+use mathlib.Core.Bool.{Bool}
 use mathlib.Core.List.{List, [], _∷_, _++_}
 use mathlib.Core.Logic.{_⊎_}
 use Prim.Native.Nat.{ℕ}
 use Rattle.book.specs.declared.event.Event.{Event}
 use Rattle.book.specs.declared.answer.Refusal.{Refusal}
 use Rattle.book.specs.Catalogue.{Sound}
-use Rattle.book.specs.Machines.{Machine, Selecting}
+use Rattle.book.specs.Machines.{Machine, Selecting, Lawful, LawfulMarks}
+use Rattle.book.specs.Tables.{Fits}
 use Rattle.book.specs.Checks.{Accepts, Refuses, Watch-accepts, Watch-refuses}
 
 -- Definitions -----------------------------------------------------------------------------------------------------
@@ -50,3 +52,10 @@ abbrev pub History-is-sound : Type 0
 History-is-sound =
     ((m : Selecting) (calls : List Call) (h : List Event) → Events-so-far m calls h → Sound h)
     × ((m : Machine) (calls : List Event) (h : List Event) → Watched-so-far m calls h → Sound h)
+
+-- any calls bring some list of events: those of a scan where a table fits, those of a watch always
+abbrev pub Some-history : Type 0
+Some-history =
+    ((m : Selecting) (reach : ℕ → ℕ → Bool) → Lawful (m .shape) → LawfulMarks (m .shape) (m .mark) → Fits (m .shape) reach →
+      (calls : List Call) → (h : List Event) × Events-so-far m calls h)
+    × ((m : Machine) (calls : List Event) → (h : List Event) × Watched-so-far m calls h)

@@ -4,7 +4,7 @@ use mathlib.Core.Bool.{Bool, true, false}
 use mathlib.Core.List.{List, [], _∷_, _++_, map}
 use mathlib.Core.Logic.{_↔_, _⊎_}
 use Prim.Native.Nat.{ℕ, suc, _+_, _≤_}
-use lib.ListN.{length}
+use lib.ListN.{length, drop}
 use Rattle.std.specs.declared.result.Result.{Result}
 use Rattle.std.specs.declared.result.Result.the-variants.{Ok, Err}
 use Rattle.book.specs.declared.event.Event.{Event}
@@ -126,8 +126,10 @@ Totals-are-true = (m : Selecting) (xs ys : List Exchange) (x : Exchange) (a : To
     (a .opened ≡ opened now) × Counts (Due m now) (a .ordered) × Counts (Dropped m now) (a .dropped) × Counts (Held m now) (a .held)
     × (a .opened ≡ a .ordered + a .dropped + a .held)
 
--- no call orders more than 129 items, so that the orders fit, and no list changes its length
-abbrev pub Lists-keep-length : Type 0
-Lists-keep-length =
-    ((m : Selecting) (xs ys : List Exchange) (x : Exchange) (a : Totals) → Promise m xs → Answered-ok xs ys x a → a .orders ≤ 129)
+-- No call orders more than 129 items, so that the orders fit; the records behind them are as they were, and no list
+-- changes its length.
+abbrev pub Lists-are-kept : Type 0
+Lists-are-kept =
+    ((m : Selecting) (xs ys : List Exchange) (x : Exchange) (a : Totals) → Promise m xs → Answered-ok xs ys x a →
+      (a .orders ≤ 129) × (drop (a .orders) (x .later) ≡ drop (a .orders) (x .before)))
     × ((m : Selecting) (xs ys : List Exchange) (x : Exchange) (zs : List Exchange) → Promise m xs → xs ≡ ys ++ (x ∷ zs) → length (x .later) ≡ length (x .before))

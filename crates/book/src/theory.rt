@@ -3,9 +3,9 @@ ghost use Rattle.book.specs.Levels.{Levels-decide-selected, Levels-decide-acce
 ghost use Rattle.book.specs.Tables.{Tables-decide-item, Tables-decide-acceptance};
 ghost use Rattle.book.specs.Earliest.{Always-ending, Items-are-one-of-three, Decisions-last, End-decides, Right-if-due, Right-rule-orders-due, Order-right-if-due, Too-early-is-wrong};
 ghost use Rattle.book.specs.Checks.{One-outcome, Refused-by-topmost, Accepted-stays-sound};
-ghost use Rattle.book.specs.History.{One-history, History-is-sound};
+ghost use Rattle.book.specs.History.{One-history, History-is-sound, Some-history};
 ghost use Rattle.book.specs.Shown.{Shown-is-enough};
-ghost use Rattle.book.specs.PromiseLaws.{One-answer, One-run, Answers-agree, Orders-are-the-due, Records-are-true, Some-answer, Totals-are-true, Lists-keep-length, None-is-earlier};
+ghost use Rattle.book.specs.PromiseLaws.{One-answer, One-run, Answers-agree, Orders-are-the-due, Records-are-true, Some-answer, Totals-are-true, Lists-are-kept, None-is-earlier};
 ghost use Rattle.book.specs.Watch.{Verdicts-mean, One-verdict, End-verdict, One-watch-run, Some-watch-answer, Watch-answers-agree};
 ghost use Rattle.book.specs.Acceptance.{Numbers-of-lines, Tags-and-states, Accepted-calls, Accepted-watch-calls, Calls-are-refused, Watch-calls-are-refused, History-within-limits, Sixty-four-deep};
 
@@ -282,9 +282,16 @@ pub fn totals_are_true_stands() -> u8
     0
 }
 
-// No call orders more than 129 items, and no list changes its length.
-pub fn lists_keep_length_stands() -> u8
-    ensures { λ _. ⌜ Lists-keep-length ⌝ }
+// No call orders more than 129 items; the records behind the orders and the length of the list stay.
+pub fn lists_are_kept_stands() -> u8
+    ensures { λ _. ⌜ Lists-are-kept ⌝ }
+{
+    0
+}
+
+// Any calls bring some list of events.
+pub fn some_history_stands() -> u8
+    ensures { λ _. ⌜ Some-history ⌝ }
 {
     0
 }
