@@ -19,7 +19,7 @@ use Rattle.book.specs.Orders.{Held}
 use Rattle.book.specs.ItemLists.{Counts}
 use Rattle.book.specs.Checks.{Shared-met, Overfull, Met, Topmost, Accepts, Refuses, Watch-accepts, Watch-refuses}
 use Rattle.book.specs.History.{Call, Events-so-far, Watched-so-far}
-use Rattle.book.specs.Acceptance.{Numbers-of-lines, Tags-and-states, Open-items, Accepted-calls, Accepted-watch-calls, Refused-calls, Calls-are-refused, Refused-watch-calls, Watch-calls-are-refused, Within-limits, History-within-limits, Sixty-four-deep}
+use Rattle.book.specs.Acceptance.{Numbers-of-lines, Tags-and-states, Open-items, Accepted-calls, Accepted-watch-calls, Ready-for, Refused-calls, Calls-are-refused, Watch-ready-for, Refused-watch-calls, Watch-calls-are-refused, Within-limits, History-within-limits, Sixty-four-deep}
 use Rattle.book.proofs.Nesting.{within-not-over, within-not-broken, events-bounded}
 use Rattle.book.proofs.Steps.{nest-more, opened-more}
 use Rattle.book.proofs.ItemLists.{counts-same, counts-most}
@@ -188,43 +188,46 @@ accepted-calls m h room t s = (
 
 pub calls-are-refused : Calls-are-refused
 calls-are-refused m h room = record {
-  no-states = λ none e. inl (none, refl);
-  ended = λ some fin e. inr ((λ z. omega arith), inl (fin, refl));
-  short-list = λ some ts at short e. inr (states (m .shape) h some ts at e, inr (going (m .shape) h some ts at e, inl ((let z : room < 129 = omega arith in z), refl)));
-  bad-tag = λ some ts at enough t big. on-tag some ts at enough (Open t) BadTag (inl (big, refl));
-  too-deep = λ some ts at enough t small deep. on-tag some ts at enough (Open t) TooDeep (inr ((λ z. omega arith), inl ((ts, at, deep), refl)));
-  too-many = λ some ts at enough t small few many. on-tag some ts at enough (Open t) TooMany (inr ((λ z. omega arith), inr (shallow (m .shape) h some ts at t few, inl (many, refl))));
-  hold-full = λ some ts at enough t small few less n c full. on-tag some ts at enough (Open t) HoldFull
-      (inr ((λ z. omega arith), inr (shallow (m .shape) h some ts at t few, inr ((λ z. omega arith), inl ((n, c, (let z : 128 < n = omega arith in z)), refl)))));
-  none-open = λ some at enough t. on-tag some [] at enough (Close t) NoneOpen (inr ((λ z. z), inr ((λ z. z), inr ((λ z. z), inr ((λ z. z), inl (at, refl))))));
-  other-tag = λ some u ts at enough t ne. on-tag some (u ∷ ts) at enough (Close t) OtherTag
-      (inr ((λ z. z), inr ((λ z. z), inr ((λ z. z), inr ((λ z. z), inr ((λ z. cons-not-nil u ts (same-open (u ∷ ts) [] (sym at ∙ z))), inl ((u, ts, at, ne), refl)))))));
-  still-open = λ some u ts at enough. on-tag some (u ∷ ts) at enough End StillOpen
-      (inr ((λ z. z), inr ((λ z. z), inr ((λ z. z), inr ((λ z. z), inr ((λ z. z), inr ((λ z. z), inl ((u, ts, at), refl))))))));
+  no-states = λ e none. inl (none, refl);
+  ended = λ e some fin. inr ((λ z. omega arith), inl (fin, refl));
+  short-list = λ e ts some at short. inr (states (m .shape) h some ts at e, inr (going (m .shape) h some ts at e, inl ((let z : room < 129 = omega arith in z), refl)));
+  bad-tag = λ t ts ready big. past-list ts ready (Open t) BadTag (inl (big, refl));
+  too-deep = λ t ts ready small deep. past-list ts ready (Open t) TooDeep (inr ((λ z. omega arith), inl ((ts, ready .2, deep), refl)));
+  too-many = λ t ts ready small few many. past-list ts ready (Open t) TooMany
+      (inr ((λ z. omega arith), inr (shallow (m .shape) h (ready .0) ts (ready .2) t few, inl (many, refl))));
+  hold-full = λ t ts ready small few less n c full. past-list ts ready (Open t) HoldFull
+      (inr ((λ z. omega arith), inr (shallow (m .shape) h (ready .0) ts (ready .2) t few, inr ((λ z. omega arith), inl ((n, c, (let z : 128 < n = omega arith in z)), refl)))));
+  none-open = λ t ready. past-list [] ready (Close t) NoneOpen (inr ((λ z. z), inr ((λ z. z), inr ((λ z. z), inr ((λ z. z), inl (ready .2, refl))))));
+  other-tag = λ t u ts ready ne. past-list (u ∷ ts) ready (Close t) OtherTag
+      (inr ((λ z. z), inr ((λ z. z), inr ((λ z. z), inr ((λ z. z), inr ((λ z. cons-not-nil u ts (same-open (u ∷ ts) [] (sym (ready .2) ∙ z))), inl ((u, ts, ready .2, ne), refl)))))));
+  still-open = λ u ts ready. past-list (u ∷ ts) ready End StillOpen
+      (inr ((λ z. z), inr ((λ z. z), inr ((λ z. z), inr ((λ z. z), inr ((λ z. z), inr ((λ z. z), inl ((u, ts, ready .2), refl))))))));
 }
   where
-    -- the lines above the tag's
-    on-tag : 1 ≤ m .shape .width → (ts : List ℕ) → nest h ≡ within ts → 129 ≤ room → (e : Event) (r : Refusal)
+    past-list : (ts : List ℕ) → Ready-for m h room ts → (e : Event) (r : Refusal)
         → Topmost (Met m h room e) (BadTag ∷ TooDeep ∷ TooMany ∷ HoldFull ∷ NoneOpen ∷ OtherTag ∷ StillOpen ∷ []) r → Refuses m h room e r
-    on-tag some ts at enough e r t = inr (states (m .shape) h some ts at e, inr (going (m .shape) h some ts at e, inr ((λ z. omega arith), t)))
+    past-list ts ready e r t =
+        let enough = ready .1 in
+        inr (states (m .shape) h (ready .0) ts (ready .2) e, inr (going (m .shape) h (ready .0) ts (ready .2) e, inr ((λ z. omega arith), t)))
 
 pub watch-calls-are-refused : Watch-calls-are-refused
 watch-calls-are-refused m h = record {
-  no-states = λ none e. inl (none, refl);
-  ended = λ some fin e. inr ((λ z. omega arith), inl (fin, refl));
-  bad-tag = λ some ts at t big. on-tag some ts at (Open t) BadTag (inl (big, refl));
-  too-deep = λ some ts at t small deep. on-tag some ts at (Open t) TooDeep (inr ((λ z. omega arith), inl ((ts, at, deep), refl)));
-  too-many = λ some ts at t small few many. on-tag some ts at (Open t) TooMany (inr ((λ z. omega arith), inr (shallow m h some ts at t few, inl (many, refl))));
-  none-open = λ some at t. on-tag some [] at (Close t) NoneOpen (inr ((λ z. z), inr ((λ z. z), inr ((λ z. z), inl (at, refl)))));
-  other-tag = λ some u ts at t ne. on-tag some (u ∷ ts) at (Close t) OtherTag
-      (inr ((λ z. z), inr ((λ z. z), inr ((λ z. z), inr ((λ z. cons-not-nil u ts (same-open (u ∷ ts) [] (sym at ∙ z))), inl ((u, ts, at, ne), refl))))));
-  still-open = λ some u ts at. on-tag some (u ∷ ts) at End StillOpen
-      (inr ((λ z. z), inr ((λ z. z), inr ((λ z. z), inr ((λ z. z), inr ((λ z. z), inl ((u, ts, at), refl)))))));
+  no-states = λ e none. inl (none, refl);
+  ended = λ e some fin. inr ((λ z. omega arith), inl (fin, refl));
+  bad-tag = λ t ts ready big. past-end ts ready (Open t) BadTag (inl (big, refl));
+  too-deep = λ t ts ready small deep. past-end ts ready (Open t) TooDeep (inr ((λ z. omega arith), inl ((ts, ready .1, deep), refl)));
+  too-many = λ t ts ready small few many. past-end ts ready (Open t) TooMany
+      (inr ((λ z. omega arith), inr (shallow m h (ready .0) ts (ready .1) t few, inl (many, refl))));
+  none-open = λ t ready. past-end [] ready (Close t) NoneOpen (inr ((λ z. z), inr ((λ z. z), inr ((λ z. z), inl (ready .1, refl)))));
+  other-tag = λ t u ts ready ne. past-end (u ∷ ts) ready (Close t) OtherTag
+      (inr ((λ z. z), inr ((λ z. z), inr ((λ z. z), inr ((λ z. cons-not-nil u ts (same-open (u ∷ ts) [] (sym (ready .1) ∙ z))), inl ((u, ts, ready .1, ne), refl))))));
+  still-open = λ u ts ready. past-end (u ∷ ts) ready End StillOpen
+      (inr ((λ z. z), inr ((λ z. z), inr ((λ z. z), inr ((λ z. z), inr ((λ z. z), inl ((u, ts, ready .1), refl)))))));
 }
   where
-    on-tag : 1 ≤ m .width → (ts : List ℕ) → nest h ≡ within ts → (e : Event) (r : Refusal)
+    past-end : (ts : List ℕ) → Watch-ready-for m h ts → (e : Event) (r : Refusal)
         → Topmost (Shared-met m h e) (BadTag ∷ TooDeep ∷ TooMany ∷ NoneOpen ∷ OtherTag ∷ StillOpen ∷ []) r → Watch-refuses m h e r
-    on-tag some ts at e r t = inr (states m h some ts at e, inr (going m h some ts at e, t))
+    past-end ts ready e r t = inr (states m h (ready .0) ts (ready .1) e, inr (going m h (ready .0) ts (ready .1) e, t))
 
 -- Within the limits -----------------------------------------------------------------------------------------------
 
@@ -278,5 +281,5 @@ pub sixty-four-deep : Sixty-four-deep
 sixty-four-deep m some = (
   accepted-calls m (replicate 63 (Open 0)) 129 0 (λ b. within-not-broken (replicate 63 0) b) .0 .1
       (some, omega arith, omega arith, (replicate 63 0, refl, omega arith), omega arith, λ n c. let a = counts-most (Held m (replicate 63 (Open 0) ++ (Open 0 ∷ []))) n 64 c (λ i held. held .0 .1) in omega arith),
-  calls-are-refused m (replicate 64 (Open 0)) 129 .too-deep some (replicate 64 0) refl (omega arith) 0 (omega arith) (omega arith),
+  calls-are-refused m (replicate 64 (Open 0)) 129 .too-deep 0 (replicate 64 0) (some, omega arith, refl) (omega arith) (omega arith),
 )

@@ -2,9 +2,8 @@
 use mathlib.Core.Path.{_≡_}
 use mathlib.Core.List.{List, [], _∷_, _++_, map}
 use mathlib.Core.Logic.{_↔_}
-use Prim.Native.Nat.{ℕ, _+_, _*_, _≤_, _<_}
+use Prim.Native.Nat.{ℕ, _≤_}
 use lib.ListN.{length, replicate}
-use Rattle.book.specs.Limits.{tags, most-states, most-open, most-items, most-held, least-room}
 use Rattle.book.specs.declared.event.Event.{Event}
 use Rattle.book.specs.declared.event.Event.the-variants.{Open, Close, End}
 use Rattle.book.specs.declared.answer.Refusal.{Refusal}
@@ -51,39 +50,47 @@ Accepted-watch-calls = (m : Machine) (h : List Event) (t : ℕ) → Sound h →
 
 -- Refused calls ---------------------------------------------------------------------------------------------------
 
--- what each call is refused with, where the conditions above do not refuse it already
+-- the book has states, the list is long enough, and items with the tags ts are open
+abbrev pub Ready-for : Selecting → List Event → ℕ → List ℕ → Type 0
+Ready-for m h room ts = (1 ≤ m .shape .width) × (129 ≤ room) × (nest h ≡ within ts)
+
+-- What the calls of a scan are refused with, line by line.
 pub record Refused-calls (m : Selecting) (h : List Event) (room : ℕ) : Type 0 where
-  pub no-states : m .shape .width ≡ 0 → (e : Event) → Refuses m h room e NoStates
-  pub ended : 1 ≤ m .shape .width → nest h ≡ over → (e : Event) → Refuses m h room e Ended
-  pub short-list : 1 ≤ m .shape .width → (ts : List ℕ) → nest h ≡ within ts → room ≤ 128 → (e : Event) → Refuses m h room e ShortList
-  pub bad-tag : 1 ≤ m .shape .width → (ts : List ℕ) → nest h ≡ within ts → 129 ≤ room → (t : ℕ) → 32 ≤ t → Refuses m h room (Open t) BadTag
-  pub too-deep : 1 ≤ m .shape .width → (ts : List ℕ) → nest h ≡ within ts → 129 ≤ room → (t : ℕ) → t ≤ 31 → 64 ≤ length ts → Refuses m h room (Open t) TooDeep
-  pub too-many : 1 ≤ m .shape .width → (ts : List ℕ) → nest h ≡ within ts → 129 ≤ room → (t : ℕ) → t ≤ 31 → length ts ≤ 63 → 16777215 ≤ opened h → Refuses m h room (Open t) TooMany
-  pub hold-full : 1 ≤ m .shape .width → (ts : List ℕ) → nest h ≡ within ts → 129 ≤ room → (t : ℕ) → t ≤ 31 → length ts ≤ 63 → opened h ≤ 16777214
-      → (n : ℕ) → Counts (Held m (h ++ (Open t ∷ []))) n → 129 ≤ n → Refuses m h room (Open t) HoldFull
-  pub none-open : 1 ≤ m .shape .width → nest h ≡ within [] → 129 ≤ room → (t : ℕ) → Refuses m h room (Close t) NoneOpen
-  pub other-tag : 1 ≤ m .shape .width → (u : ℕ) (ts : List ℕ) → nest h ≡ within (u ∷ ts) → 129 ≤ room → (t : ℕ) → (u ≡ t → ⊥) → Refuses m h room (Close t) OtherTag
-  pub still-open : 1 ≤ m .shape .width → (u : ℕ) (ts : List ℕ) → nest h ≡ within (u ∷ ts) → 129 ≤ room → Refuses m h room End StillOpen
+  pub no-states : (e : Event) → m .shape .width ≡ 0 → Refuses m h room e NoStates
+  pub ended : (e : Event) → 1 ≤ m .shape .width → nest h ≡ over → Refuses m h room e Ended
+  pub short-list : (e : Event) (ts : List ℕ) → 1 ≤ m .shape .width → nest h ≡ within ts → room ≤ 128 → Refuses m h room e ShortList
+  pub bad-tag : (t : ℕ) (ts : List ℕ) → Ready-for m h room ts → 32 ≤ t → Refuses m h room (Open t) BadTag
+  pub too-deep : (t : ℕ) (ts : List ℕ) → Ready-for m h room ts → t ≤ 31 → 64 ≤ length ts → Refuses m h room (Open t) TooDeep
+  pub too-many : (t : ℕ) (ts : List ℕ) → Ready-for m h room ts → t ≤ 31 → length ts ≤ 63 → 16777215 ≤ opened h → Refuses m h room (Open t) TooMany
+  pub hold-full : (t : ℕ) (ts : List ℕ) → Ready-for m h room ts → t ≤ 31 → length ts ≤ 63 → opened h ≤ 16777214 →
+      (n : ℕ) → Counts (Held m (h ++ (Open t ∷ []))) n → 129 ≤ n → Refuses m h room (Open t) HoldFull
+  pub none-open : (t : ℕ) → Ready-for m h room [] → Refuses m h room (Close t) NoneOpen
+  pub other-tag : (t u : ℕ) (ts : List ℕ) → Ready-for m h room (u ∷ ts) → (u ≡ t → ⊥) → Refuses m h room (Close t) OtherTag
+  pub still-open : (u : ℕ) (ts : List ℕ) → Ready-for m h room (u ∷ ts) → Refuses m h room End StillOpen
 
 abbrev pub Calls-are-refused : Type 0
 Calls-are-refused = (m : Selecting) (h : List Event) (room : ℕ) → Refused-calls m h room
 
+-- A watch has no list and no hold.
+abbrev pub Watch-ready-for : Machine → List Event → List ℕ → Type 0
+Watch-ready-for m h ts = (1 ≤ m .width) × (nest h ≡ within ts)
+
 pub record Refused-watch-calls (m : Machine) (h : List Event) : Type 0 where
-  pub no-states : m .width ≡ 0 → (e : Event) → Watch-refuses m h e NoStates
-  pub ended : 1 ≤ m .width → nest h ≡ over → (e : Event) → Watch-refuses m h e Ended
-  pub bad-tag : 1 ≤ m .width → (ts : List ℕ) → nest h ≡ within ts → (t : ℕ) → 32 ≤ t → Watch-refuses m h (Open t) BadTag
-  pub too-deep : 1 ≤ m .width → (ts : List ℕ) → nest h ≡ within ts → (t : ℕ) → t ≤ 31 → 64 ≤ length ts → Watch-refuses m h (Open t) TooDeep
-  pub too-many : 1 ≤ m .width → (ts : List ℕ) → nest h ≡ within ts → (t : ℕ) → t ≤ 31 → length ts ≤ 63 → 16777215 ≤ opened h → Watch-refuses m h (Open t) TooMany
-  pub none-open : 1 ≤ m .width → nest h ≡ within [] → (t : ℕ) → Watch-refuses m h (Close t) NoneOpen
-  pub other-tag : 1 ≤ m .width → (u : ℕ) (ts : List ℕ) → nest h ≡ within (u ∷ ts) → (t : ℕ) → (u ≡ t → ⊥) → Watch-refuses m h (Close t) OtherTag
-  pub still-open : 1 ≤ m .width → (u : ℕ) (ts : List ℕ) → nest h ≡ within (u ∷ ts) → Watch-refuses m h End StillOpen
+  pub no-states : (e : Event) → m .width ≡ 0 → Watch-refuses m h e NoStates
+  pub ended : (e : Event) → 1 ≤ m .width → nest h ≡ over → Watch-refuses m h e Ended
+  pub bad-tag : (t : ℕ) (ts : List ℕ) → Watch-ready-for m h ts → 32 ≤ t → Watch-refuses m h (Open t) BadTag
+  pub too-deep : (t : ℕ) (ts : List ℕ) → Watch-ready-for m h ts → t ≤ 31 → 64 ≤ length ts → Watch-refuses m h (Open t) TooDeep
+  pub too-many : (t : ℕ) (ts : List ℕ) → Watch-ready-for m h ts → t ≤ 31 → length ts ≤ 63 → 16777215 ≤ opened h → Watch-refuses m h (Open t) TooMany
+  pub none-open : (t : ℕ) → Watch-ready-for m h [] → Watch-refuses m h (Close t) NoneOpen
+  pub other-tag : (t u : ℕ) (ts : List ℕ) → Watch-ready-for m h (u ∷ ts) → (u ≡ t → ⊥) → Watch-refuses m h (Close t) OtherTag
+  pub still-open : (u : ℕ) (ts : List ℕ) → Watch-ready-for m h (u ∷ ts) → Watch-refuses m h End StillOpen
 
 abbrev pub Watch-calls-are-refused : Type 0
 Watch-calls-are-refused = (m : Machine) (h : List Event) → Refused-watch-calls m h
 
 -- Within the limits -----------------------------------------------------------------------------------------------
 
--- the events that calls bring open at most 16,777,215 items, of which at most 64 are open, and are at most twice as many and one
+-- at most 16,777,215 items are opened, 64 of them open at once; so the events are at most twice as many and the end
 pub record Within-limits (h : List Event) : Type 0 where
   pub items : opened h ≤ 16777215
   pub deep : (ts : List ℕ) → nest h ≡ within ts → length ts ≤ 64

@@ -57,5 +57,5 @@ History-is-sound =
 abbrev pub Some-history : Type 0
 Some-history =
     ((m : Selecting) (reach : ℕ → ℕ → Bool) → Lawful (m .shape) → LawfulMarks (m .shape) (m .mark) → Fits (m .shape) reach →
-      (calls : List Call) → (h : List Event) × Events-so-far m calls h)
+    (calls : List Call) → (h : List Event) × Events-so-far m calls h)
     × ((m : Machine) (calls : List Event) → (h : List Event) × Watched-so-far m calls h)

@@ -131,5 +131,5 @@ Totals-are-true = (m : Selecting) (xs ys : List Exchange) (x : Exchange) (a : To
 abbrev pub Lists-are-kept : Type 0
 Lists-are-kept =
     ((m : Selecting) (xs ys : List Exchange) (x : Exchange) (a : Totals) → Promise m xs → Answered-ok xs ys x a →
-      (a .orders ≤ 129) × (drop (a .orders) (x .later) ≡ drop (a .orders) (x .before)))
+    (a .orders ≤ 129) × (drop (a .orders) (x .later) ≡ drop (a .orders) (x .before)))
     × ((m : Selecting) (xs ys : List Exchange) (x : Exchange) (zs : List Exchange) → Promise m xs → xs ≡ ys ++ (x ∷ zs) → length (x .later) ≡ length (x .before))

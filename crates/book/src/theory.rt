@@ -3,11 +3,13 @@ ghost use Rattle.book.specs.Levels.{Levels-decide-selected, Levels-decide-acce
 ghost use Rattle.book.specs.Tables.{Tables-decide-item, Tables-decide-acceptance};
 ghost use Rattle.book.specs.Earliest.{Always-ending, Items-are-one-of-three, Decisions-last, End-decides, Right-if-due, Right-rule-orders-due, Order-right-if-due, Too-early-is-wrong};
 ghost use Rattle.book.specs.Checks.{One-outcome, Refused-by-topmost, Accepted-stays-sound};
-ghost use Rattle.book.specs.History.{One-history, History-is-sound, Some-history};
+ghost use Rattle.book.specs.Acceptance.{Accepted-calls, Accepted-watch-calls, Calls-are-refused, Watch-calls-are-refused, Numbers-of-lines, Tags-and-states, Sixty-four-deep, History-within-limits};
+ghost use Rattle.book.specs.History.{One-history, Some-history, History-is-sound};
+ghost use Rattle.book.specs.PromiseLaws.{One-answer, One-run, Some-answer, Answers-agree, Orders-are-the-due, Records-are-true, None-is-earlier, Totals-are-true, Lists-are-kept};
 ghost use Rattle.book.specs.Shown.{Shown-is-enough};
-ghost use Rattle.book.specs.PromiseLaws.{One-answer, One-run, Answers-agree, Orders-are-the-due, Records-are-true, Some-answer, Totals-are-true, Lists-are-kept, None-is-earlier};
 ghost use Rattle.book.specs.Watch.{Verdicts-mean, One-verdict, End-verdict, One-watch-run, Some-watch-answer, Watch-answers-agree};
-ghost use Rattle.book.specs.Acceptance.{Numbers-of-lines, Tags-and-states, Accepted-calls, Accepted-watch-calls, Calls-are-refused, Watch-calls-are-refused, History-within-limits, Sixty-four-deep};
+
+// Levels and tables ---------------------------------------------------------------------------------------------
 
 // Reach sets decide, level by level and both ways, what every and what some ending makes of an opened item.
 pub fn levels_decide_selected_stands() -> u8
@@ -37,6 +39,8 @@ pub fn tables_decide_acceptance_stands() -> u8
     0
 }
 
+// Due, dropped, held --------------------------------------------------------------------------------------------
+
 // There is always an ending.
 pub fn always_ending_stands() -> u8
     ensures { λ _. ⌜ Always-ending ⌝ }
@@ -64,6 +68,8 @@ pub fn end_decides_stands() -> u8
 {
     0
 }
+
+// Right rules and right orders ----------------------------------------------------------------------------------
 
 // A rule is right just if it orders nothing that is not due then.
 pub fn right_if_due_stands() -> u8
@@ -93,6 +99,8 @@ pub fn too_early_is_wrong_stands() -> u8
     0
 }
 
+// Checks --------------------------------------------------------------------------------------------------------
+
 // A call is accepted, or refused with one line, and not both.
 pub fn one_outcome_stands() -> u8
     ensures { λ _. ⌜ One-outcome ⌝ }
@@ -114,9 +122,67 @@ pub fn accepted_stays_sound_stands() -> u8
     0
 }
 
+// Just when a call of a scan is accepted.
+pub fn accepted_calls_stands() -> u8
+    ensures { λ _. ⌜ Accepted-calls ⌝ }
+{
+    0
+}
+
+// Just when a call of a watch is accepted.
+pub fn accepted_watch_calls_stands() -> u8
+    ensures { λ _. ⌜ Accepted-watch-calls ⌝ }
+{
+    0
+}
+
+// What a call of a scan is refused with.
+pub fn calls_are_refused_stands() -> u8
+    ensures { λ _. ⌜ Calls-are-refused ⌝ }
+{
+    0
+}
+
+// What a call of a watch is refused with.
+pub fn watch_calls_are_refused_stands() -> u8
+    ensures { λ _. ⌜ Watch-calls-are-refused ⌝ }
+{
+    0
+}
+
+// The refusals of a scan are numbered 1 to 10 down the table.
+pub fn numbers_of_lines_stands() -> u8
+    ensures { λ _. ⌜ Numbers-of-lines ⌝ }
+{
+    0
+}
+
+// Tags are 0 to 31, and a book has at most 64 states.
+pub fn tags_and_states_stands() -> u8
+    ensures { λ _. ⌜ Tags-and-states ⌝ }
+{
+    0
+}
+
+// On any book a 64th nested item is accepted, and a 65th refused.
+pub fn sixty_four_deep_stands() -> u8
+    ensures { λ _. ⌜ Sixty-four-deep ⌝ }
+{
+    0
+}
+
+// The events so far ---------------------------------------------------------------------------------------------
+
 // Calls bring one list of events at most.
 pub fn one_history_stands() -> u8
     ensures { λ _. ⌜ One-history ⌝ }
+{
+    0
+}
+
+// Any calls bring some list of events.
+pub fn some_history_stands() -> u8
+    ensures { λ _. ⌜ Some-history ⌝ }
 {
     0
 }
@@ -128,12 +194,14 @@ pub fn history_is_sound_stands() -> u8
     0
 }
 
-// What a scan shows for an accepted call is enough for the promise.
-pub fn shown_is_enough_stands() -> u8
-    ensures { λ _. ⌜ Shown-is-enough ⌝ }
+// The events that calls bring stay within the limits.
+pub fn history_within_limits_stands() -> u8
+    ensures { λ _. ⌜ History-within-limits ⌝ }
 {
     0
 }
+
+// The promise of a scan -----------------------------------------------------------------------------------------
 
 // A call of a scan has one answer, and leaves one list.
 pub fn one_answer_stands() -> u8
@@ -145,6 +213,13 @@ pub fn one_answer_stands() -> u8
 // The same calls with the same lists give the same exchanges throughout.
 pub fn one_run_stands() -> u8
     ensures { λ _. ⌜ One-run ⌝ }
+{
+    0
+}
+
+// Where a table fits, any calls have answers that keep the promise.
+pub fn some_answer_stands() -> u8
+    ensures { λ _. ⌜ Some-answer ⌝ }
 {
     0
 }
@@ -170,12 +245,35 @@ pub fn records_are_true_stands() -> u8
     0
 }
 
-// Where a table fits, any calls have answers that keep the promise.
-pub fn some_answer_stands() -> u8
-    ensures { λ _. ⌜ Some-answer ⌝ }
+// Whoever gives a right order, by whatever rule, gives it no earlier than a scan that keeps the promise.
+pub fn none_is_earlier_stands() -> u8
+    ensures { λ _. ⌜ None-is-earlier ⌝ }
 {
     0
 }
+
+// The totals after an accepted call count the items of each kind.
+pub fn totals_are_true_stands() -> u8
+    ensures { λ _. ⌜ Totals-are-true ⌝ }
+{
+    0
+}
+
+// No call orders more than 129 items; the records behind the orders and the length of the list stay.
+pub fn lists_are_kept_stands() -> u8
+    ensures { λ _. ⌜ Lists-are-kept ⌝ }
+{
+    0
+}
+
+// What a scan shows for an accepted call is enough for the promise.
+pub fn shown_is_enough_stands() -> u8
+    ensures { λ _. ⌜ Shown-is-enough ⌝ }
+{
+    0
+}
+
+// The promise of a watch ----------------------------------------------------------------------------------------
 
 // What a verdict says of the catalogues that the events begin.
 pub fn verdicts_mean_stands() -> u8
@@ -215,90 +313,6 @@ pub fn some_watch_answer_stands() -> u8
 // An answer of a watch is Ok just if the call is accepted.
 pub fn watch_answers_agree_stands() -> u8
     ensures { λ _. ⌜ Watch-answers-agree ⌝ }
-{
-    0
-}
-
-// The refusals of a scan are numbered 1 to 10 down the table.
-pub fn numbers_of_lines_stands() -> u8
-    ensures { λ _. ⌜ Numbers-of-lines ⌝ }
-{
-    0
-}
-
-// Tags are 0 to 31, and a book has at most 64 states.
-pub fn tags_and_states_stands() -> u8
-    ensures { λ _. ⌜ Tags-and-states ⌝ }
-{
-    0
-}
-
-// Just when a call of a scan is accepted.
-pub fn accepted_calls_stands() -> u8
-    ensures { λ _. ⌜ Accepted-calls ⌝ }
-{
-    0
-}
-
-// Just when a call of a watch is accepted.
-pub fn accepted_watch_calls_stands() -> u8
-    ensures { λ _. ⌜ Accepted-watch-calls ⌝ }
-{
-    0
-}
-
-// What a call of a scan is refused with.
-pub fn calls_are_refused_stands() -> u8
-    ensures { λ _. ⌜ Calls-are-refused ⌝ }
-{
-    0
-}
-
-// What a call of a watch is refused with.
-pub fn watch_calls_are_refused_stands() -> u8
-    ensures { λ _. ⌜ Watch-calls-are-refused ⌝ }
-{
-    0
-}
-
-// The events that calls bring stay within the limits.
-pub fn history_within_limits_stands() -> u8
-    ensures { λ _. ⌜ History-within-limits ⌝ }
-{
-    0
-}
-
-// On any book a 64th nested item is accepted, and a 65th refused.
-pub fn sixty_four_deep_stands() -> u8
-    ensures { λ _. ⌜ Sixty-four-deep ⌝ }
-{
-    0
-}
-
-// The totals after an accepted call count the items of each kind.
-pub fn totals_are_true_stands() -> u8
-    ensures { λ _. ⌜ Totals-are-true ⌝ }
-{
-    0
-}
-
-// No call orders more than 129 items; the records behind the orders and the length of the list stay.
-pub fn lists_are_kept_stands() -> u8
-    ensures { λ _. ⌜ Lists-are-kept ⌝ }
-{
-    0
-}
-
-// Any calls bring some list of events.
-pub fn some_history_stands() -> u8
-    ensures { λ _. ⌜ Some-history ⌝ }
-{
-    0
-}
-
-// Whoever gives a right order, by whatever rule, gives it no earlier than a scan that keeps the promise.
-pub fn none_is_earlier_stands() -> u8
-    ensures { λ _. ⌜ None-is-earlier ⌝ }
 {
     0
 }
