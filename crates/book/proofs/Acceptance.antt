@@ -143,7 +143,8 @@ accepted-watch-calls m h t s = (
 )
 
 -- a scan's lines are those it shares, the list and the hold
-scan-unmet : (m : Selecting) (h : List Event) (room : ℕ) (e : Event) → Unmet (m .shape) h e → 129 ≤ room → (Met m h room e HoldFull → ⊥) → (r : Refusal) → Met m h room e r → ⊥
+scan-unmet : (m : Selecting) (h : List Event) (room : ℕ) (e : Event) → Unmet (m .shape) h e → 129 ≤ room → (Met m h room e HoldFull → ⊥) → (r : Refusal)
+    → Met m h room e r → ⊥
 scan-unmet m h room e none enough free NoStates = none NoStates
 scan-unmet m h room e none enough free Ended = none Ended
 scan-unmet m h room e none enough free ShortList = λ y. omega arith

@@ -70,7 +70,8 @@ pub some-outcome : (met : Refusal → Type 0) (lines : List Refusal) → Told me
 some-outcome met [] told = inr tt
 some-outcome met (l ∷ lines) told = go (told .0) (some-outcome met lines)
   where
-    go : met l ⊎ (met l → ⊥) → (Told met lines → ((r : Refusal) × Topmost met lines r) ⊎ None-met met lines) → ((r : Refusal) × Topmost met (l ∷ lines) r) ⊎ None-met met (l ∷ lines)
+    go : met l ⊎ (met l → ⊥) → (Told met lines → ((r : Refusal) × Topmost met lines r) ⊎ None-met met lines)
+        → ((r : Refusal) × Topmost met (l ∷ lines) r) ⊎ None-met met (l ∷ lines)
     go (inl y) rest = inl (l, inl (y, refl))
     go (inr n) rest = elim (rest (told .1 n)) [ inl t ↦ inl (t .0, inr (n, t .1)) | inr none ↦ inr (n, none) ]
 

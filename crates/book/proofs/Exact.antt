@@ -116,7 +116,8 @@ exact-step m h given x (Err r) ex k = ex
 
 -- What is shown is enough -----------------------------------------------------------------------------------------
 
-one-of : (b c d : Bool) → (b ≡ true → c ≡ true → ⊥) → (b ≡ true → d ≡ true → ⊥) → (c ≡ true → d ≡ true → ⊥) → (b ≡ false → c ≡ false → d ≡ false → ⊥) → one-if b + one-if c + one-if d ≡ 1
+one-of : (b c d : Bool) → (b ≡ true → c ≡ true → ⊥) → (b ≡ true → d ≡ true → ⊥) → (c ≡ true → d ≡ true → ⊥) → (b ≡ false → c ≡ false → d ≡ false → ⊥)
+    → one-if b + one-if c + one-if d ≡ 1
 one-of true true d p q r s = absurd (p refl refl)
 one-of true false true p q r s = absurd (q refl refl)
 one-of true false false p q r s = refl
@@ -129,7 +130,8 @@ not-member : (xs : List ℕ) (i : ℕ) → mem xs i ≡ false → In i xs → �
 not-member xs i f y = both-ways (mem xs i) f (in-mem xs i y)
 
 -- the opened items are the ordered, the dropped and the held
-pub totals-add : (m : Selecting) (h : List Event) (given : List Order) (d k : ℕ) → Exact m h given → Counts (Dropped m h) d → Counts (Held m h) k → opened h ≡ length given + d + k
+pub totals-add : (m : Selecting) (h : List Event) (given : List Order) (d k : ℕ) → Exact m h given → Counts (Dropped m h) d → Counts (Held m h) k
+    → opened h ≡ length given + d + k
 totals-add m h given d k ex dropped held =
     let G : List ℕ = map item-of given in
     let D : List ℕ = dropped .0 in

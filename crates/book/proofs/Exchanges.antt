@@ -41,7 +41,8 @@ module _ {C X : Type 0} (so-far : List C → List Event → Type 0) (call : X �
   kept-none [] x zs e = absurd (cons-not-nil x zs (sym e))
   kept-none (y ∷ ys) x zs e = absurd (cons-not-nil y (ys ++ (x ∷ zs)) (sym e))
 
-  pub kept-more : (xs : List X) (x : X) (h : List Event) → Each-kept so-far call keeps xs → so-far (map call xs) h → keeps h xs x → Each-kept so-far call keeps (xs ++ (x ∷ []))
+  pub kept-more : (xs : List X) (x : X) (h : List Event) → Each-kept so-far call keeps xs → so-far (map call xs) h → keeps h xs x
+      → Each-kept so-far call keeps (xs ++ (x ∷ []))
   kept-more xs x h kept at k ys y zs e = elim (split-last xs ys zs x y e) [
     | inl same ↦ (h, subst (λ (l : List X). so-far (map call l) h) (same .0) at, subst (λ (z : X). keeps h ys z) (same .1) (subst (λ (l : List X). keeps h l x) (same .0) k))
     | inr before ↦ kept ys y (before .0) (before .1)
@@ -53,13 +54,15 @@ module _ {C X : Type 0} (so-far : List C → List Event → Type 0) (call : X �
 
   module _ (same : (cs : List C) (h g : List Event) → so-far cs h → so-far cs g → h ≡ g) where
     -- after the events so far, the next exchange keeps its promise
-    pub kept-at : (xs ys : List X) (x : X) (zs : List X) (h : List Event) → Each-kept so-far call keeps xs → xs ≡ ys ++ (x ∷ zs) → so-far (map call ys) h → keeps h ys x
+    pub kept-at : (xs ys : List X) (x : X) (zs : List X) (h : List Event) → Each-kept so-far call keeps xs → xs ≡ ys ++ (x ∷ zs) → so-far (map call ys) h
+        → keeps h ys x
     kept-at xs ys x zs h kept e at = let k = kept ys x zs e in subst (λ (g : List Event). keeps g ys x) (same (map call ys) (k .0) h (k .1) at) (k .2)
 
     -- what lasts from exchange to exchange
     module _ (P : List X → List Event → Type 0) (next : List Event → X → List Event)
         (more : (ys : List X) (x : X) (h : List Event) → so-far (map call ys) h → P ys h → keeps h ys x → so-far (map call ys ++ (call x ∷ [])) (next h x) × P (ys ++ (x ∷ [])) (next h x)) where
-      along : (xs done todo : List X) (h : List Event) → Each-kept so-far call keeps xs → xs ≡ done ++ todo → so-far (map call done) h → P done h → (g : List Event) × so-far (map call xs) g × P xs g
+      along : (xs done todo : List X) (h : List Event) → Each-kept so-far call keeps xs → xs ≡ done ++ todo → so-far (map call done) h → P done h
+          → (g : List Event) × so-far (map call xs) g × P xs g
       along xs done [] h kept e at p =
           let whole : done ≡ xs = sym (append-nil done) ∙ sym e in
           (h, subst (λ (l : List X). so-far (map call l) h) whole at, subst (λ (l : List X). P l h) whole p)
@@ -73,7 +76,8 @@ module _ {C X : Type 0} (so-far : List C → List Event → Type 0) (call : X �
 
     -- where the same question has one answer, the same questions give the same exchanges
     module _ {A : Type 0} (asked : X → A) (one : (h : List Event) (ys : List X) (x y : X) → asked x ≡ asked y → keeps h ys x → keeps h ys y → x ≡ y) where
-      same-from : (xs ys done todo more : List X) → Each-kept so-far call keeps xs → Each-kept so-far call keeps ys → xs ≡ done ++ todo → ys ≡ done ++ more → map asked todo ≡ map asked more → todo ≡ more
+      same-from : (xs ys done todo more : List X) → Each-kept so-far call keeps xs → Each-kept so-far call keeps ys → xs ≡ done ++ todo → ys ≡ done ++ more
+          → map asked todo ≡ map asked more → todo ≡ more
       same-from xs ys done [] [] k l a b e = refl
       same-from xs ys done [] (y ∷ more) k l a b e = absurd (cons-not-nil (asked y) (map asked more) (sym e))
       same-from xs ys done (x ∷ todo) [] k l a b e = absurd (cons-not-nil (asked x) (map asked todo) e)
@@ -91,7 +95,8 @@ module _ {C X : Type 0} (so-far : List C → List Event → Type 0) (call : X �
   -- where each question has an answer, so have any questions
   module _ {A : Type 0} (asked : X → A)
       (any : (xs : List X) → Each-kept so-far call keeps xs → (a : A) → (x : X) × (asked x ≡ a) × Each-kept so-far call keeps (xs ++ (x ∷ []))) where
-    some-from : (done : List X) (calls : List A) → Each-kept so-far call keeps done → (xs : List X) × (map asked xs ≡ map asked done ++ calls) × Each-kept so-far call keeps xs
+    some-from : (done : List X) (calls : List A) → Each-kept so-far call keeps done
+        → (xs : List X) × (map asked xs ≡ map asked done ++ calls) × Each-kept so-far call keeps xs
     some-from done [] kept = (done, sym (append-nil (map asked done)), kept)
     some-from done (a ∷ calls) kept =
         let x = any done kept a in

@@ -79,7 +79,8 @@ module _ (m : Machine) (reach : ℕ → ℕ → Bool) (rows : ℕ → ℕ → Fo
       let g = and-parts (tagged (rows q q′)) (eqb (through m (rows q q′) q) q′) f in
       (rows q q′, g .0, eqb-true (through m (rows q q′) q) q′ (g .1))
 
-  onward : (q p t p′ : ℕ) → q < m .width → p < m .width → t < tags → p′ < m .width → reach q p ≡ true → reach (m .enter p t) p′ ≡ true → reach q (m .back p p′ t) ≡ true
+  onward : (q p t p′ : ℕ) → q < m .width → p < m .width → t < tags → p′ < m .width → reach q p ≡ true → reach (m .enter p t) p′ ≡ true
+      → reach q (m .back p p′ t) ≡ true
   onward q p t p′ a b c d y z =
       let f = gives (reach q p) (every-below tags (λ u. every-below (m .width) (λ r. then (reach (m .enter p u) r) (reach q (m .back p r u)))))
       (each (m .width) (λ x. then (reach q x) (every-below tags (λ u. every-below (m .width) (λ r. then (reach (m .enter x u) r) (reach q (m .back x r u))))))

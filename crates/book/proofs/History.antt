@@ -63,7 +63,8 @@ pub watched-more : (m : Machine) (calls : List Event) (c : Event) (h g : List Ev
     → Bring itself (Watch-accepts m) (Watch-refuses m) h (c ∷ []) g → Watched-so-far m (calls ++ (c ∷ [])) g
 watched-more m calls c h g = bring-more itself (Watch-accepts m) (Watch-refuses m) [] calls c h g
 
-pub events-keep : (m : Selecting) (P : List Event → Type 0) → P [] → ((h : List Event) (c : Call) → P h → Accepts m h (c .room) (c .event) → P (h ++ (c .event ∷ [])))
+pub events-keep : (m : Selecting) (P : List Event → Type 0) → P []
+    → ((h : List Event) (c : Call) → P h → Accepts m h (c .room) (c .event) → P (h ++ (c .event ∷ [])))
     → (calls : List Call) (h : List Event) → Events-so-far m calls h → P h
 events-keep m P start keep calls h = bring-keeps event-of (scan-accepts m) (scan-refuses m) P keep [] calls h start
 

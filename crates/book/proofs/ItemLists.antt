@@ -126,7 +126,8 @@ tally-rising (suc n) low (x ∷ xs) r within = go (tally-rising n (suc low)) (in
         omega arith
 
 -- three tests of which each number passes just one
-pub tally-three : (b c d : ℕ → Bool) (low n : ℕ) → ((i : ℕ) → low < i → i ≤ low + n → one-if (b i) + one-if (c i) + one-if (d i) ≡ 1) → tally b low n + tally c low n + tally d low n ≡ n
+pub tally-three : (b c d : ℕ → Bool) (low n : ℕ) → ((i : ℕ) → low < i → i ≤ low + n → one-if (b i) + one-if (c i) + one-if (d i) ≡ 1)
+    → tally b low n + tally c low n + tally d low n ≡ n
 tally-three b c d low zero one = refl
 tally-three b c d low (suc n) one =
     let here = one (suc low) (omega arith) (omega arith) in
@@ -185,7 +186,8 @@ once-append (x ∷ xs) ys a b apart = (
 -- The items of a kind ---------------------------------------------------------------------------------------------
 
 -- the items of a kind, where each is of it or not
-pub picked : (P : ℕ → Type 0) (n low : ℕ) → ((i : ℕ) → low < i → i ≤ low + n → P i ⊎ (P i → ⊥)) → (xs : List ℕ) × Rising low xs × ((i : ℕ) → In i xs ↔ ((low < i) × (i ≤ low + n) × P i))
+pub picked : (P : ℕ → Type 0) (n low : ℕ) → ((i : ℕ) → low < i → i ≤ low + n → P i ⊎ (P i → ⊥))
+    → (xs : List ℕ) × Rising low xs × ((i : ℕ) → In i xs ↔ ((low < i) × (i ≤ low + n) × P i))
 picked P zero low dec = ([], tt, λ i. (λ y. absurd y, λ y. let a = y .0 in let b = y .1 in absurd (omega arith)))
 picked P (suc n) low dec = go (picked P n (suc low) (λ i lo hi. dec i (omega arith) (omega arith))) (dec (suc low) (omega arith) (omega arith))
   where

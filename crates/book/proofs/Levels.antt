@@ -60,7 +60,8 @@ module _ (m : Machine) (f : Entering) (b : Bool) where
   sure-holds (End ∷ e) (u ∷ ts) ss q n pl s fin = absurd (not-from-broken e fin)
 
   -- what some ending comes to is possible by the levels
-  pub found-possible : (e : List Event) (ts ss : List ℕ) (q n : ℕ) → Plain-from m f n → follow after (within ts) e ≡ over → Ends (stand q ss n) e → Possible m b ts ss q
+  pub found-possible : (e : List Event) (ts ss : List ℕ) (q n : ℕ) → Plain-from m f n → follow after (within ts) e ≡ over → Ends (stand q ss n) e
+      → Possible m b ts ss q
   found-possible [] ts ss q n pl fin a = absurd (within-not-over ts fin)
   found-possible (Open t ∷ e) ts ss q n pl fin a =
       let ok = passed (ltb t tags) (within (t ∷ ts)) e fin in
@@ -78,7 +79,8 @@ module _ (m : Machine) (f : Entering) (b : Bool) where
 
 module _ (m : Machine) (f : Entering) (b : Bool) where
   -- what is so at every ending is sure by the levels
-  pub holds-sure : (ts ss : List ℕ) (q n : ℕ) → Plain-from m f n → ((e : List Event) → follow after (within ts) e ≡ over → Ends m f b (stand q ss n) e) → Sure m b ts ss q
+  pub holds-sure : (ts ss : List ℕ) (q n : ℕ) → Plain-from m f n → ((e : List Event) → follow after (within ts) e ≡ over → Ends m f b (stand q ss n) e)
+      → Sure m b ts ss q
   holds-sure [] ss q n pl every = λ q′ r.
       let lead = row-leads m f (r .0) ss q n pl in
       subst (λ (x : ℕ). m .accepts x ≡ b) (r .2)
@@ -91,7 +93,8 @@ module _ (m : Machine) (f : Entering) (b : Bool) where
       (every (events (r .0) ++ (Close t ∷ e)) (row-nests (r .0) (t ∷ ts) (Close t ∷ e) (r .1) ∙ close-nests t ts e ∙ fin))))
 
   -- what is possible by the levels some ending comes to
-  pub possible-found : (ts ss : List ℕ) (q n : ℕ) → Plain-from m f n → Possible m b ts ss q → (e : List Event) × (follow after (within ts) e ≡ over) × Ends m f b (stand q ss n) e
+  pub possible-found : (ts ss : List ℕ) (q n : ℕ) → Plain-from m f n → Possible m b ts ss q
+      → (e : List Event) × (follow after (within ts) e ≡ over) × Ends m f b (stand q ss n) e
   possible-found [] ss q n pl p =
       let r = p .1 in
       let lead = row-leads m f (r .0) ss q n pl in (

@@ -21,3 +21,4 @@ pub mod SomeAnswer
 pub mod Watch
 pub mod Acceptance
 pub mod Totals
+pub mod Room

@@ -30,7 +30,8 @@ module _ (m : Machine) (law : Lawful m) (some : 0 < m .width) where
   reach-below q p h r = let a = through-below (r .0) q h in let b = r .2 in omega arith
 
   -- along a run
-  pub follow-below : (f : Entering) → ((k s t : ℕ) → f k s t < m .width) → (e : List Event) (c : Stand) → c .state < m .width → follow (step m f) c e .state < m .width
+  pub follow-below : (f : Entering) → ((k s t : ℕ) → f k s t < m .width) → (e : List Event) (c : Stand) → c .state < m .width
+      → follow (step m f) c e .state < m .width
   follow-below f fb [] c h = h
   follow-below f fb (Open t ∷ e) c h = follow-below f fb e (step m f c (Open t)) (fb (suc (c .items)) (c .state) t)
   follow-below f fb (Close t ∷ e) c h = follow-below f fb e (step m f c (Close t)) (back-below (last (c .aside)) (c .state) t)
@@ -42,7 +43,8 @@ module _ (m : Machine) (law : Lawful m) (some : 0 < m .width) where
 pub mark-below : (m : Selecting) → LawfulMarks (m .shape) (m .mark) → 0 < m .shape .width → (s t : ℕ) → m .mark s t < m .shape .width
 mark-below m law some s t = let a = law .marks s t in omega arith
 
-pub marked-run-below : (m : Selecting) → Lawful (m .shape) → LawfulMarks (m .shape) (m .mark) → 0 < m .shape .width → (i : ℕ) (h : List Event) → run (m .shape) (marking m i) h .state < m .shape .width
+pub marked-run-below : (m : Selecting) → Lawful (m .shape) → LawfulMarks (m .shape) (m .mark) → 0 < m .shape .width → (i : ℕ) (h : List Event)
+    → run (m .shape) (marking m i) h .state < m .shape .width
 marked-run-below m law mark-law some i h =
     follow-below (m .shape) law some (marking m i)
     (λ k s t. cond-both (eqb k i) (m .mark s t) (m .shape .enter s t) (λ x. x < m .shape .width) (λ _. mark-below m mark-law some s t) (λ _. enter-below (m .shape) law some s t))

@@ -71,7 +71,8 @@ row-nests (item t r s) ts e ok =
     ∙ row-nests s ts e (p .1)
 
 -- and leads a run where it leads
-pub row-leads : (m : Machine) (f : Entering) (r : Forest) (ss : List ℕ) (q n : ℕ) → Plain-from m f n → (k : ℕ) × Plain-from m f k × ((e : List Event) → follow (step m f) (stand q ss n) (events r ++ e) ≡ follow (step m f) (stand (through m r q) ss k) e)
+pub row-leads : (m : Machine) (f : Entering) (r : Forest) (ss : List ℕ) (q n : ℕ) → Plain-from m f n
+    → (k : ℕ) × Plain-from m f k × ((e : List Event) → follow (step m f) (stand q ss n) (events r ++ e) ≡ follow (step m f) (stand (through m r q) ss k) e)
 row-leads m f none ss q n pl = (n, pl, λ e. refl)
 row-leads m f (item t r s) ss q n pl =
     let in₁ = row-leads m f r (q ∷ ss) (m .enter q t) (suc n) (plain-later m f n pl) in

@@ -26,7 +26,8 @@ use Rattle.book.proofs.Exact.{exact-none, exact-step}
 
 -- One exchange more -----------------------------------------------------------------------------------------------
 
-pub orders-more : (xs : List Exchange) (x : Exchange) (given : List Order) → orders-after given (xs ++ (x ∷ [])) ≡ with-orders (orders-after given xs) (x .answer) (x .later)
+pub orders-more : (xs : List Exchange) (x : Exchange) (given : List Order)
+    → orders-after given (xs ++ (x ∷ [])) ≡ with-orders (orders-after given xs) (x .answer) (x .later)
 orders-more [] x given = refl
 orders-more (y ∷ xs) x given = orders-more xs x (with-orders given (y .answer) (y .later))
 
@@ -50,7 +51,8 @@ events-on m calls h given x at k = events-more m calls (call-of x) h (after-call
 pub promise-none : (m : Selecting) → Promise m []
 promise-none m = kept-none (Events-so-far m) call-of (λ h zs x. Keeps m h (orders-of zs) x)
 
-pub promise-more : (m : Selecting) (xs : List Exchange) (x : Exchange) (h : List Event) → Promise m xs → Events-so-far m (map call-of xs) h → Keeps m h (orders-of xs) x → Promise m (xs ++ (x ∷ []))
+pub promise-more : (m : Selecting) (xs : List Exchange) (x : Exchange) (h : List Event) → Promise m xs → Events-so-far m (map call-of xs) h
+    → Keeps m h (orders-of xs) x → Promise m (xs ++ (x ∷ []))
 promise-more m xs x h = kept-more (Events-so-far m) call-of (λ g zs y. Keeps m g (orders-of zs) y) xs x h
 
 -- What lasts ------------------------------------------------------------------------------------------------------
@@ -91,7 +93,8 @@ ok-not-err a r x p q = let z : _≡_ {A = ℕ} 0 1 = cc in omega arith
 err-same : (r s : Refusal) (x : Result Totals Refusal) → x ≡ Err r → x ≡ Err s → r ≡ s
 err-same r s x p q = cc
 
-agrees : (m : Selecting) (h : List Event) (given : List Order) (x : Exchange) (a : Result Totals Refusal) → x .answer ≡ a → Answered m h given x a → Answer-agrees m h x
+agrees : (m : Selecting) (h : List Event) (given : List Order) (x : Exchange) (a : Result Totals Refusal) → x .answer ≡ a → Answered m h given x a
+    → Answer-agrees m h x
 agrees m h given x (Ok a) is k = (
   (λ _. k .accepted, λ _. (a, is)),
   λ r. (λ e. absurd (ok-not-err a r (x .answer) is e), λ t. absurd (not-both (Met m h (length (x .before)) (x .call)) scan-lines r (k .accepted) t)),
@@ -116,11 +119,23 @@ events-answered m xs p =
     xs [] refl refl p in
     subst (Events-so-far m (map call-of xs)) (sym (r .2)) (r .1)
 
+-- An exchange of a run --------------------------------------------------------------------------------------------
+
+module _ (m : Selecting) (xs ys : List Exchange) (x : Exchange) (zs : List Exchange) (p : Promise m xs) (e : xs ≡ ys ++ (x ∷ zs)) where
+  pub promise-before : Promise m ys
+  promise-before = kept-before (Events-so-far m) call-of (λ h ws w. Keeps m h (orders-of ws) w) ys (x ∷ zs) (subst (Promise m) e p)
+
+  pub events-before : Events-so-far m (map call-of ys) (events-of ys)
+  events-before = events-answered m ys promise-before
+
+  pub exact-before : Exact m (events-of ys) (orders-of ys)
+  exact-before = exact-run m ys (events-of ys) promise-before events-before
+
+  pub keeps-here : Keeps m (events-of ys) (orders-of ys) x
+  keeps-here = kept-at (Events-so-far m) call-of (λ h ws w. Keeps m h (orders-of ws) w) (events-same m) xs ys x zs (events-of ys) p e events-before
+
 pub answers-agree : Answers-agree
 answers-agree m xs p = (
   events-answered m xs p,
-  λ ys x zs e.
-      let before : Promise m ys = kept-before (Events-so-far m) call-of (λ h ws w. Keeps m h (orders-of ws) w) ys (x ∷ zs) (subst (Promise m) e p) in
-      let k : Keeps m (events-of ys) (orders-of ys) x = kept-at (Events-so-far m) call-of (λ h ws w. Keeps m h (orders-of ws) w) (events-same m) xs ys x zs (events-of ys) p e (events-answered m ys before) in
-      agrees m (events-of ys) (orders-of ys) x (x .answer) refl k,
+  λ ys x zs e. agrees m (events-of ys) (orders-of ys) x (x .answer) refl (keeps-here m xs ys x zs p e),
 )

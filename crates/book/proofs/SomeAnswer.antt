@@ -32,7 +32,8 @@ module _ (m : Selecting) (reach : ℕ → ℕ → Bool) (law : Lawful (m .shape)
   abbrev Answer : List Event → List Order → Event → List Order → Type 0
   Answer h given e before = (a : Result Totals Refusal) × (later : List Order) × Keeps m h given (exchange e before a later)
 
-  accepted-answer : (h : List Event) (given : List Order) (e : Event) (before : List Order) → Exact m h given → Accepts m h (length before) e → Answer h given e before
+  accepted-answer : (h : List Event) (given : List Order) (e : Event) (before : List Order) → Exact m h given → Accepts m h (length before) e
+      → Answer h given e before
   accepted-answer h given e before ex ok =
       let now : List Event = h ++ (e ∷ []) in
       let s : Sound now = accepted-sound m h (length before) e (ex .sound) ok in
@@ -60,7 +61,8 @@ module _ (m : Selecting) (reach : ℕ → ℕ → Bool) (law : Lawful (m .shape)
       elim (scan-outcome m reach law mark-law fits h (length before) (ex .sound) e)
       [ inl f ↦ (Err (f .0), before, (f .1, refl)) | inr ok ↦ accepted-answer h given e before ex ok ]
 
-  next-answer : (xs : List Exchange) → Promise m xs → (e : Event) (before : List Order) → (a : Result Totals Refusal) × (later : List Order) × Promise m (xs ++ (exchange e before a later ∷ []))
+  next-answer : (xs : List Exchange) → Promise m xs → (e : Event) (before : List Order)
+      → (a : Result Totals Refusal) × (later : List Order) × Promise m (xs ++ (exchange e before a later ∷ []))
   next-answer xs p e before =
       let at = events-answered m xs p in
       let r = any-answer _ (orders-of xs) e before (exact-run m xs _ p at) in

@@ -36,7 +36,8 @@ run-opened m f h = run-items m f h (stand (m .start) [] 0)
 -- The run in which one item alone is entered by mark ------------------------------------------------------------
 
 -- runs that enter alike go alike
-follow-alike : (m : Machine) (f g : Entering) (e : List Event) (c : Stand) → ((k s t : ℕ) → k ≤ follow count (c .items) e → f k s t ≡ g k s t) → follow (step m f) c e ≡ follow (step m g) c e
+follow-alike : (m : Machine) (f g : Entering) (e : List Event) (c : Stand) → ((k s t : ℕ) → k ≤ follow count (c .items) e → f k s t ≡ g k s t)
+    → follow (step m f) c e ≡ follow (step m g) c e
 follow-alike m f g [] c same = refl
 follow-alike m f g (Open t ∷ e) c same =
     let here = same (suc (c .items)) (c .state) t (count-grows e (suc (c .items))) in

@@ -59,7 +59,8 @@ module _ (reach : ℕ → ℕ → Bool) (m : Machine) (law : Lawful m) (some : 0
 
 -- From the two tests to the endings -------------------------------------------------------------------------------
 
-pub two-tests : (question : List Event → Bool) (h : List Event) (y n : Bool) → Sound h → (y ≡ true) ↔ Some question true h → (n ≡ true) ↔ Some question false h → Two-tests question h y n
+pub two-tests : (question : List Event → Bool) (h : List Event) (y n : Bool) → Sound h → (y ≡ true) ↔ Some question true h → (n ≡ true) ↔ Some question false h
+    → Two-tests question h y n
 two-tests question h true true s yes-is no-is = (yes-is .0 refl, no-is .0 refl)
 two-tests question h true false s yes-is no-is = every-unless question h (λ x. both-ways false refl (no-is .1 x))
 two-tests question h false true s yes-is no-is = never-unless question h (λ x. both-ways false refl (yes-is .1 x))

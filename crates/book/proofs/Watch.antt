@@ -19,12 +19,12 @@ use Rattle.book.specs.Tables.{Fits, may-end, Two-tests}
 use Rattle.book.specs.Earliest.{Begins}
 use Rattle.book.specs.Checks.{watch-lines, Shared-met, Watch-accepts, Watch-refuses}
 use Rattle.book.specs.History.{Bring, itself, Watched-so-far}
-use Rattle.book.specs.Watch.{Says, WatchExchange, watch-exchange, watch-call, Watch-answered, Watch-keeps, Watch-promise, Verdict-means, Verdicts-mean, One-verdict, End-verdict, One-watch-run, Some-watch-answer, Watch-answers-agree}
+use Rattle.book.specs.Watch.{Says, WatchExchange, watch-exchange, watch-call, Watch-answered, Watch-keeps, Watch-promise, Verdict-means, Verdicts-mean, One-verdict, End-verdict, Verdicts-of-runs, One-watch-run, Some-watch-answer, Watch-answers-agree}
 use Rattle.book.proofs.Questions.{not-every-both, not-every-some, not-never-some, every-at-end, some-at-end}
 use Rattle.book.proofs.Tables.{tables-decide-acceptance}
 use Rattle.book.proofs.Checks.{not-both, topmost-same, watch-accepted-sound}
 use Rattle.book.proofs.History.{watched-same, watched-more, watched-sound}
-use Rattle.book.proofs.Exchanges.{kept-more, through-all, same-exchanges, some-exchanges}
+use Rattle.book.proofs.Exchanges.{map-append, kept-more, kept-at, through-all, same-exchanges, some-exchanges}
 use Rattle.book.proofs.Telling.{watch-outcome}
 
 -- What a verdict says ---------------------------------------------------------------------------------------------
@@ -157,7 +157,8 @@ watch-next : List Event → Event → Result Verdict Refusal → List Event
 watch-next h e (Ok v) = h ++ (e ∷ [])
 watch-next h e (Err r) = h
 
-watch-brings : (m : Machine) (h : List Event) (e : Event) (a : Result Verdict Refusal) → Watch-answered m h e a → Bring itself (Watch-accepts m) (Watch-refuses m) h (e ∷ []) (watch-next h e a)
+watch-brings : (m : Machine) (h : List Event) (e : Event) (a : Result Verdict Refusal) → Watch-answered m h e a
+    → Bring itself (Watch-accepts m) (Watch-refuses m) h (e ∷ []) (watch-next h e a)
 unfolding watch-next
 watch-brings m h e (Ok v) k = inl (k .0, refl)
 watch-brings m h e (Err r) k = inr ((r, k), refl)
@@ -169,7 +170,8 @@ watch-events m xs p =
     xs [] refl tt p in
     (r .0, r .1)
 
-pub watch-promise-more : (m : Machine) (xs : List WatchExchange) (x : WatchExchange) (h : List Event) → Watch-promise m xs → Watched-so-far m (map watch-call xs) h → Watch-keeps m h x → Watch-promise m (xs ++ (x ∷ []))
+pub watch-promise-more : (m : Machine) (xs : List WatchExchange) (x : WatchExchange) (h : List Event) → Watch-promise m xs → Watched-so-far m (map watch-call xs) h
+    → Watch-keeps m h x → Watch-promise m (xs ++ (x ∷ []))
 watch-promise-more m xs x h = kept-more (Watched-so-far m) watch-call (λ g zs y. Watch-keeps m g y) xs x h
 
 pub some-watch-answer : Some-watch-answer
@@ -184,3 +186,20 @@ some-watch-answer m reach law fits = (
         let at = watch-events m xs p in
         let r = any-watch-answer m reach law fits (at .0) e (watched-sound m (map watch-call xs) (at .0) (at .1)) in
         (r .0, watch-promise-more m xs (watch-exchange e (r .0)) (at .0) p (at .1) (r .1))
+
+-- Verdicts of runs ------------------------------------------------------------------------------------------------
+
+pub verdicts-of-runs : Verdicts-of-runs
+unfolding watch-next
+verdicts-of-runs m xs ys x zs p e h g before after-it =
+    let k : Watch-keeps m h x = kept-at (Watched-so-far m) watch-call (λ f ws w. Watch-keeps m f w) (watched-same m) xs ys x zs h p e before in
+    let brought : (a : Result Verdict Refusal) → Watch-answered m h (x .call) a → g ≡ watch-next h (x .call) a = (λ a y.
+    watched-same m (map watch-call (ys ++ (x ∷ []))) g (watch-next h (x .call) a) after-it
+    (subst (λ (l : List Event). Watched-so-far m l (watch-next h (x .call) a)) (sym (map-append watch-call ys (x ∷ [])))
+    (watched-more m (map watch-call ys) (x .call) h (watch-next h (x .call) a) before (watch-brings m h (x .call) a y)))) in (
+      λ v is.
+          let y : Watch-answered m h (x .call) (Ok v) = subst (Watch-answered m h (x .call)) is k in
+          let to : g ≡ h ++ (x .call ∷ []) = brought (Ok v) y in
+          (to, subst (λ (l : List Event). Verdict-means m l v) (sym to) (verdicts-mean m (h ++ (x .call ∷ [])) v .0 (y .1))),
+      λ r is. brought (Err r) (subst (Watch-answered m h (x .call)) is k),
+    )

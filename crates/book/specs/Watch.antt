@@ -70,6 +70,14 @@ abbrev pub End-verdict : Type 0
 End-verdict = (m : Machine) (h : List Event) → nest h ≡ over →
     (Says m h Yes ↔ (accepted m h ≡ true)) × (Says m h No ↔ (accepted m h ≡ false)) × (Says m h Undecided → ⊥)
 
+-- In a run that keeps the promise, the verdict of an accepted call is about the events with its own, and a refused
+-- call brings none: h are the events before the call, g those after it.
+abbrev pub Verdicts-of-runs : Type 0
+Verdicts-of-runs = (m : Machine) (xs ys : List WatchExchange) (x : WatchExchange) (zs : List WatchExchange) → Watch-promise m xs → xs ≡ ys ++ (x ∷ zs) →
+    (h g : List Event) → Watched-so-far m (map watch-call ys) h → Watched-so-far m (map watch-call (ys ++ (x ∷ []))) g →
+    ((v : Verdict) → x .answer ≡ Ok v → (g ≡ h ++ (x .call ∷ [])) × Verdict-means m g v)
+    × ((r : Refusal) → x .answer ≡ Err r → g ≡ h)
+
 -- the same calls have the same answers throughout
 abbrev pub One-watch-run : Type 0
 One-watch-run = (m : Machine) (xs ys : List WatchExchange) → Watch-promise m xs → Watch-promise m ys → map watch-call xs ≡ map watch-call ys → xs ≡ ys

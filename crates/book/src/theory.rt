@@ -7,7 +7,7 @@ ghost use Rattle.book.specs.Acceptance.{Accepted-calls, Accepted-watch-calls, 
 ghost use Rattle.book.specs.History.{One-history, Some-history, History-is-sound};
 ghost use Rattle.book.specs.PromiseLaws.{One-answer, One-run, Some-answer, Answers-agree, Orders-are-the-due, Records-are-true, None-is-earlier, Totals-are-true, Lists-are-kept};
 ghost use Rattle.book.specs.Shown.{Shown-is-enough};
-ghost use Rattle.book.specs.Watch.{Verdicts-mean, One-verdict, End-verdict, One-watch-run, Some-watch-answer, Watch-answers-agree};
+ghost use Rattle.book.specs.Watch.{Verdicts-mean, One-verdict, End-verdict, Verdicts-of-runs, One-watch-run, Some-watch-answer, Watch-answers-agree};
 
 // Levels and tables ---------------------------------------------------------------------------------------------
 
@@ -292,6 +292,13 @@ pub fn one_verdict_stands() -> u8
 // After the end the verdict is yes just if the catalogue is accepted.
 pub fn end_verdict_stands() -> u8
     ensures { λ _. ⌜ End-verdict ⌝ }
+{
+    0
+}
+
+// The verdict of an accepted call is about the events with its own.
+pub fn verdicts_of_runs_stands() -> u8
+    ensures { λ _. ⌜ Verdicts-of-runs ⌝ }
 {
     0
 }
