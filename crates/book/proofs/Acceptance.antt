@@ -1,32 +1,31 @@
 -- When calls are accepted, what they are refused with, and that the events so far stay within the limits.
 use mathlib.Core.Path.{_≡_, refl, sym, ap, subst, _∙_}
 use mathlib.Core.Bool.{Bool, true, false, cond}
-use mathlib.Core.List.{List, [], _∷_, _++_, map}
-use mathlib.Core.Logic.{_↔_, _⊎_, inl, inr}
-use Prim.Native.Nat.{ℕ, suc, _+_, _*_, _≤_, _<_}
+use mathlib.Core.List.{List, [], _∷_, _++_}
+use mathlib.Core.Logic.{_↔_, inl, inr}
+use Prim.Native.Nat.{ℕ, suc, _≤_, _<_}
 use native.Mathlib.Omega.{arith}
 use lib.Dec.{ltb, eqb}
 use lib.ListN.{length, replicate}
-use Rattle.std.proofs.shelf.Tests.{cases-lt, cases-eq, lt-ltb, ltb-true, ltb-false, eqb-true}
-use Rattle.book.specs.Limits.{tags, most-open, most-items, most-held, least-room}
+use Rattle.std.proofs.shelf.Tests.{cases-lt, cases-eq, lt-ltb, ltb-true}
+use Rattle.book.specs.Limits.{tags}
 use Rattle.book.specs.declared.event.Event.{Event}
 use Rattle.book.specs.declared.event.Event.the-variants.{Open, Close, End}
 use Rattle.book.specs.declared.answer.Refusal.{Refusal}
 use Rattle.book.specs.declared.answer.Refusal.the-variants.{NoStates, Ended, ShortList, BadTag, TooDeep, TooMany, HoldFull, NoneOpen, OtherTag, StillOpen}
-use Rattle.book.specs.Catalogue.{Nest, within, over, broken, after, nest, Sound, count, opened}
-use Rattle.book.specs.Machines.{Machine, Selecting, Lawful}
+use Rattle.book.specs.Catalogue.{Nest, within, broken, after, nest, Sound, count, opened}
+use Rattle.book.specs.Machines.{Machine, Selecting}
 use Rattle.book.specs.Orders.{Held}
 use Rattle.book.specs.ItemLists.{Counts}
-use Rattle.book.specs.Checks.{Shared-met, Overfull, Met, Topmost, Accepts, Refuses, Watch-accepts, Watch-refuses}
-use Rattle.book.specs.History.{Call, Events-so-far, Watched-so-far}
-use Rattle.book.specs.Acceptance.{Numbers-of-lines, Tags-and-states, Open-items, Accepted-calls, Accepted-watch-calls, Ready-for, Refused-calls, Calls-are-refused, Watch-ready-for, Refused-watch-calls, Watch-calls-are-refused, Within-limits, History-within-limits, Sixty-four-deep}
+use Rattle.book.specs.Checks.{Shared-met, Overfull, Met, Topmost, Accepts, Refuses, Watch-refuses}
+use Rattle.book.specs.Acceptance.{Numbers-of-lines, Tags-and-states, Open-items, Accepted-calls, Accepted-watch-calls, Ready-for, Calls-are-refused, Watch-ready-for, Watch-calls-are-refused, Within-limits, History-within-limits, Sixty-four-deep}
 use Rattle.book.proofs.Nesting.{within-not-over, within-not-broken, events-bounded}
 use Rattle.book.proofs.Steps.{nest-more, opened-more}
-use Rattle.book.proofs.ItemLists.{counts-same, counts-most}
+use Rattle.book.proofs.ItemLists.{counts-most}
 use Rattle.book.proofs.Checks.{unmet, accepts, watch-unmet, watch-accepts, shared-unmet, unmet-sound}
 use Rattle.book.proofs.History.{sound-none, events-keep, watched-keep}
 use Rattle.book.proofs.Exchanges.{cons-not-nil}
-use Rattle.book.proofs.Telling.{is-over, open-items, same-open, same-head}
+use Rattle.book.proofs.Telling.{open-items, same-open, same-head}
 
 -- Numbers ---------------------------------------------------------------------------------------------------------
 

@@ -1,17 +1,17 @@
 -- Due, dropped and held items, right rules, and right orders.
-use mathlib.Core.Path.{_≡_, refl, sym, ap, subst, _∙_}
+use mathlib.Core.Path.{_≡_, refl, sym, subst, _∙_}
 use mathlib.Core.Bool.{Bool, true, false}
 use mathlib.Core.List.{List, [], _∷_, _++_, append-assoc}
-use mathlib.Core.Logic.{_↔_, _⊎_, inl, inr}
-use Prim.Native.Nat.{ℕ, _≤_, _<_}
+use mathlib.Core.Logic.{_⊎_, inl, inr}
+use Prim.Native.Nat.{ℕ, _<_}
 use native.Mathlib.Omega.{arith}
 use Rattle.std.proofs.shelf.Tests.{cases-bool, cases-lt, both-ways}
 use Rattle.book.specs.declared.event.Event.{Event}
-use Rattle.book.specs.Catalogue.{Nest, within, over, broken, nest, Catalogue, Sound, Ending, opened}
-use Rattle.book.specs.Machines.{Machine, Selecting, Lawful, LawfulMarks, run, marking, selected}
-use Rattle.book.specs.Orders.{Every, Some, Opened, Due, Dropped, Held, Rule, Right}
+use Rattle.book.specs.Catalogue.{Nest, within, over, broken, nest, Catalogue, Sound, opened}
+use Rattle.book.specs.Machines.{Selecting, Lawful, LawfulMarks, run, marking, selected}
+use Rattle.book.specs.Orders.{Some, Opened, Due, Dropped, Held}
 use Rattle.book.specs.Tables.{Fits, may-end, Decided}
-use Rattle.book.specs.Earliest.{Always-ending, Not-two, One-of-three, Items-are-one-of-three, Decisions-last, End-decides, Right-if-due, Right-rule-orders-due, Begins, Order-right, Order-right-if-due, Left-out, Too-early-is-wrong}
+use Rattle.book.specs.Earliest.{Always-ending, Not-two, One-of-three, Items-are-one-of-three, Decisions-last, End-decides, Right-if-due, Right-rule-orders-due, Order-right-if-due, Left-out, Too-early-is-wrong}
 use Rattle.book.proofs.Nesting.{ending, ending-sound}
 use Rattle.book.proofs.Selections.{opened-on, selected-is, selected-opened}
 use Rattle.book.proofs.Questions.{every-unless, never-unless, not-every-both, not-every-some, not-never-some, every-on, every-at-end, some-at-end}

@@ -2,8 +2,8 @@
 use mathlib.Core.Path.{_≡_, refl, sym, ap, subst, _∙_}
 use mathlib.Core.Bool.{Bool, true, false}
 use mathlib.Core.List.{List, [], _∷_, _++_, map, append-nil}
-use mathlib.Core.Logic.{_↔_, _⊎_, inl, inr}
-use Prim.Native.Nat.{ℕ, _+_, _≤_, _<_}
+use mathlib.Core.Logic.{_↔_, inl, inr}
+use Prim.Native.Nat.{ℕ, _+_}
 use native.Mathlib.Omega.{arith}
 use lib.ListN.{length, take, drop, length-append, length-map}
 use Rattle.std.proofs.shelf.Tests.{both-ways}
@@ -14,13 +14,13 @@ use Rattle.book.specs.declared.answer.Order.{Order}
 use Rattle.book.specs.declared.answer.Totals.{Totals}
 use Rattle.book.specs.declared.answer.Refusal.{Refusal}
 use Rattle.book.specs.Catalogue.{Sound, opened}
-use Rattle.book.specs.Machines.{Selecting, selected}
-use Rattle.book.specs.Orders.{Opened, Due, Dropped, Held, Rule, Right}
-use Rattle.book.specs.ItemLists.{In, Once, Rising, Lists, Counts}
+use Rattle.book.specs.Machines.{Selecting}
+use Rattle.book.specs.Orders.{Due, Dropped, Held}
+use Rattle.book.specs.ItemLists.{In, Once, Lists, Counts}
 use Rattle.book.specs.Checks.{Accepts}
-use Rattle.book.specs.Promise.{Exchange, with-orders, order, item-of, Newly-due, Fulfilled, Answered, Keeps}
+use Rattle.book.specs.Promise.{Exchange, with-orders, order, item-of, Newly-due, Answered}
 use Rattle.book.specs.PromiseLaws.{with-event}
-use Rattle.book.specs.Shown.{Exact, Just-due, Shown, Shown-is-enough}
+use Rattle.book.specs.Shown.{Exact, Just-due, Shown-is-enough}
 use Rattle.book.proofs.Earliest.{due-opened, due-on, not-two, not-none, right-rule-orders-due}
 use Rattle.book.proofs.ItemLists.{in-left, in-right, in-cases, in-or-not, lists-alike, mem, mem-in, in-mem, tally, one-if, tally-rising, tally-three, tally-once, rising-once, once-append}
 use Rattle.book.proofs.Checks.{accepted-sound}

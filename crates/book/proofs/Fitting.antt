@@ -1,13 +1,12 @@
 -- A table fits if what it has is reached, and if it has each state with itself and goes on over one item more:
 -- what making ready has to show, in whatever order it goes. And a computed test for small books.
-use mathlib.Core.Path.{_≡_, refl, sym, ap, subst, _∙_}
-use mathlib.Core.Bool.{Bool, true, false, cond, not, _&&_, _||_}
-use mathlib.Core.List.{List, [], _∷_, _++_}
-use mathlib.Core.Logic.{_↔_, _⊎_, inl, inr}
-use Prim.Native.Nat.{ℕ, zero, suc, _+_, _≤_, _<_}
+use mathlib.Core.Path.{_≡_, refl, subst}
+use mathlib.Core.Bool.{Bool, true, false, not, _&&_, _||_}
+use mathlib.Core.Logic.{inl, inr}
+use Prim.Native.Nat.{ℕ, zero, suc, _<_}
 use native.Mathlib.Omega.{arith}
 use lib.Dec.{ltb, eqb}
-use Rattle.std.proofs.shelf.Tests.{cases-lt, cases-bool, and-parts, and-from, or-cases, eqb-true, ltb-true, lt-ltb, both-ways}
+use Rattle.std.proofs.shelf.Tests.{cases-lt, and-parts, eqb-true, ltb-true, both-ways}
 use Rattle.book.specs.Limits.{tags}
 use Rattle.book.specs.Machines.{Machine, Lawful}
 use Rattle.book.specs.Rows.{Forest, none, item, tagged, through, Reach}

@@ -1,17 +1,16 @@
 -- How events nest, and that events which break no rule have an ending.
-use mathlib.Core.Path.{_≡_, refl, sym, ap, subst, _∙_}
+use mathlib.Core.Path.{_≡_, refl, sym, subst, _∙_}
 use mathlib.Core.Bool.{Bool, true, false, cond}
-use mathlib.Core.List.{List, [], _∷_, _++_, append-assoc}
-use mathlib.Core.Logic.{_⊎_, inl, inr}
-use Prim.Native.Nat.{ℕ, zero, suc, _+_, _*_, _≤_, _<_}
+use mathlib.Core.List.{List, [], _∷_, _++_}
+use Prim.Native.Nat.{ℕ, suc, _+_, _*_, _≤_}
 use native.Mathlib.Omega.{arith}
 use lib.Dec.{ltb, eqb}
 use lib.ListN.{length}
-use Rattle.std.proofs.shelf.Tests.{eqb-true, eq-eqb}
+use Rattle.std.proofs.shelf.Tests.{eq-eqb}
 use Rattle.book.specs.declared.event.Event.{Event}
 use Rattle.book.specs.declared.event.Event.the-variants.{Open, Close, End}
 use Rattle.book.specs.Limits.{tags}
-use Rattle.book.specs.Catalogue.{follow, Nest, within, over, broken, after, nest, Catalogue, Sound, Ending, count, opened}
+use Rattle.book.specs.Catalogue.{follow, Nest, within, over, broken, after, nest, Sound, Ending, count, opened}
 
 pub follow-append : {S : Type 0} (f : S → Event → S) (s : S) (xs ys : List Event) → follow f s (xs ++ ys) ≡ follow f (follow f s xs) ys
 follow-append f s [] ys = refl

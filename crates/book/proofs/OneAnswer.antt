@@ -1,6 +1,6 @@
 -- The promise leaves no choice: one call has one answer and leaves one list, and the same calls the same exchanges.
-use mathlib.Core.Path.{_≡_, refl, sym, ap, subst, _∙_}
-use mathlib.Core.List.{List, [], _∷_, _++_, map}
+use mathlib.Core.Path.{_≡_, sym, ap, subst, _∙_}
+use mathlib.Core.List.{List, _++_, map}
 use Prim.Native.Nat.{ℕ, _+_}
 use lib.ListN.{length, drop}
 use Rattle.std.specs.declared.result.Result.{Result}
@@ -13,7 +13,7 @@ use Rattle.book.specs.Machines.{Selecting}
 use Rattle.book.specs.Orders.{Dropped, Held}
 use Rattle.book.specs.Checks.{scan-lines, Met}
 use Rattle.book.specs.History.{Events-so-far}
-use Rattle.book.specs.Promise.{Exchange, exchange, call-of, orders-of, order, Newly-due, Answered, Keeps, Promise}
+use Rattle.book.specs.Promise.{Exchange, exchange, call-of, orders-of, order, Newly-due, Keeps}
 use Rattle.book.specs.PromiseLaws.{One-answer, Asked, asked, One-run}
 use Rattle.book.proofs.ItemLists.{lists-same, counts-same}
 use Rattle.book.proofs.Checks.{not-both, topmost-same}

@@ -1,8 +1,8 @@
 -- Questions about catalogues: what every ending answers stays so, and after the end the catalogue answers.
-use mathlib.Core.Path.{_≡_, refl, sym, ap, subst, _∙_}
+use mathlib.Core.Path.{_≡_, sym, ap, subst, _∙_}
 use mathlib.Core.Bool.{Bool, true, false}
-use mathlib.Core.List.{List, [], _∷_, _++_, append-assoc, append-nil}
-use mathlib.Core.Logic.{_↔_, _⊎_, inl, inr}
+use mathlib.Core.List.{List, [], _++_, append-assoc, append-nil}
+use mathlib.Core.Logic.{_↔_, inl, inr}
 use Rattle.std.proofs.shelf.Tests.{both-ways, cases-bool}
 use Rattle.book.specs.declared.event.Event.{Event}
 use Rattle.book.specs.Catalogue.{follow, Nest, within, over, after, nest, Sound, Ending}

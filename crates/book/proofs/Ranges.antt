@@ -1,15 +1,13 @@
 -- Every state that a lawful book answers, and every state along a run, is one of the book's states.
-use mathlib.Core.Path.{_≡_, sym, subst}
-use mathlib.Core.Bool.{Bool, cond}
 use mathlib.Core.List.{List, [], _∷_}
-use Prim.Native.Nat.{ℕ, suc, _-_, _≤_, _<_}
+use Prim.Native.Nat.{ℕ, suc, _<_}
 use native.Mathlib.Omega.{arith}
 use lib.Dec.{eqb}
 use Rattle.std.proofs.shelf.Tests.{cond-both}
 use Rattle.book.specs.declared.event.Event.{Event}
 use Rattle.book.specs.declared.event.Event.the-variants.{Open, Close, End}
 use Rattle.book.specs.Catalogue.{follow}
-use Rattle.book.specs.Machines.{Machine, Selecting, Lawful, LawfulMarks, Entering, Stand, stand, last, others, step, run, plainly, marking}
+use Rattle.book.specs.Machines.{Machine, Selecting, Lawful, LawfulMarks, Entering, Stand, stand, last, step, run, plainly, marking}
 use Rattle.book.specs.Rows.{Forest, none, item, through, Reach}
 
 module _ (m : Machine) (law : Lawful m) (some : 0 < m .width) where

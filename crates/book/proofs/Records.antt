@@ -1,12 +1,11 @@
 -- Each order record tells the events of its open and of its order.
 use mathlib.Core.Path.{_≡_, refl, sym, ap, subst, _∙_}
-use mathlib.Core.Bool.{Bool, true, false, cond}
+use mathlib.Core.Bool.{Bool, cond}
 use mathlib.Core.List.{List, [], _∷_, _++_, map, append-assoc}
 use mathlib.Core.Logic.{_⊎_, _≢_, inl, inr}
-use Prim.Native.Nat.{ℕ, zero, suc, pred, _+_, _≤_, _<_}
+use Prim.Native.Nat.{ℕ, suc, pred, _≤_, _<_}
 use native.Mathlib.Omega.{arith}
-use lib.Dec.{eqb}
-use lib.ListN.{length, take, drop, length-append}
+use lib.ListN.{length, take, length-append}
 use Rattle.std.proofs.shelf.Tests.{cases-eq, cases-lt, eq-eqb, ne-eqb}
 use Rattle.std.specs.declared.result.Result.{Result}
 use Rattle.std.specs.declared.result.Result.the-variants.{Ok, Err}
@@ -15,11 +14,11 @@ use Rattle.book.specs.declared.event.Event.the-variants.{Open, Close, End}
 use Rattle.book.specs.declared.answer.Order.{Order}
 use Rattle.book.specs.declared.answer.Totals.{Totals}
 use Rattle.book.specs.declared.answer.Refusal.{Refusal}
-use Rattle.book.specs.Catalogue.{follow, count, opened, Sound}
+use Rattle.book.specs.Catalogue.{opened, Sound}
 use Rattle.book.specs.Machines.{Selecting}
 use Rattle.book.specs.Orders.{Opened, Due}
 use Rattle.book.specs.ItemLists.{In}
-use Rattle.book.specs.Promise.{Exchange, opening, order, item-of, orders-of, with-orders, Newly-due, Answered, Keeps, Promise}
+use Rattle.book.specs.Promise.{Exchange, opening, order, item-of, orders-of, with-orders, Newly-due, Answered}
 use Rattle.book.specs.PromiseLaws.{with-event, Opens-at, Due-at, Each, Has, Records-are-true, None-is-earlier}
 use Rattle.book.specs.Shown.{Exact}
 use Rattle.book.proofs.Nesting.{count-shift}

@@ -1,16 +1,16 @@
 -- Rows of whole items: one after another, and what they do to events and to runs.
-use mathlib.Core.Path.{_≡_, refl, sym, ap, subst, _∙_}
-use mathlib.Core.Bool.{Bool, true, false, cond, _&&_}
-use mathlib.Core.List.{List, [], _∷_, _++_, append-assoc}
-use Prim.Native.Nat.{ℕ, zero, suc, _+_, _≤_, _<_}
+use mathlib.Core.Path.{_≡_, refl, ap, _∙_}
+use mathlib.Core.Bool.{Bool, true, cond, _&&_}
+use mathlib.Core.List.{List, _∷_, _++_, append-assoc}
+use Prim.Native.Nat.{ℕ, suc, _<_}
 use native.Mathlib.Omega.{arith}
-use lib.Dec.{ltb, eqb}
+use lib.Dec.{ltb}
 use Rattle.std.proofs.shelf.Tests.{eq-eqb, and-parts, and-from}
 use Rattle.book.specs.Limits.{tags}
 use Rattle.book.specs.declared.event.Event.{Event}
 use Rattle.book.specs.declared.event.Event.the-variants.{Open, Close}
 use Rattle.book.specs.Catalogue.{follow, within, broken, after}
-use Rattle.book.specs.Machines.{Machine, Entering, Stand, stand, step}
+use Rattle.book.specs.Machines.{Machine, Entering, stand, step}
 use Rattle.book.specs.Rows.{Forest, none, item, tagged, through, events, Reach}
 
 -- Rows side by side -----------------------------------------------------------------------------------------------

@@ -1,7 +1,7 @@
 -- Over whole runs: the answers agree with the checks, and the orders so far are those of the due items.
 use mathlib.Core.Path.{_≡_, refl, sym, ap, subst, _∙_}
 use mathlib.Core.List.{List, [], _∷_, _++_, map}
-use mathlib.Core.Logic.{_↔_, _⊎_, inl, inr}
+use mathlib.Core.Logic.{inl, inr}
 use Prim.Native.Nat.{ℕ}
 use native.Mathlib.Omega.{arith}
 use lib.ListN.{length}
@@ -11,11 +11,10 @@ use Rattle.book.specs.declared.event.Event.{Event}
 use Rattle.book.specs.declared.answer.Order.{Order}
 use Rattle.book.specs.declared.answer.Totals.{Totals}
 use Rattle.book.specs.declared.answer.Refusal.{Refusal}
-use Rattle.book.specs.Catalogue.{nest, over}
-use Rattle.book.specs.Machines.{Selecting, selected}
+use Rattle.book.specs.Machines.{Selecting}
 use Rattle.book.specs.Checks.{Accepts, Refuses, scan-lines, Met}
 use Rattle.book.specs.History.{Bring, Call, event-of, Events-so-far}
-use Rattle.book.specs.Promise.{Exchange, call-of, with-orders, orders-after, orders-of, item-of, Answered, Keeps, Promise}
+use Rattle.book.specs.Promise.{Exchange, call-of, with-orders, orders-after, orders-of, Answered, Keeps, Promise}
 use Rattle.book.specs.PromiseLaws.{with-event, events-after, events-of, Answer-agrees, Answers-agree, Orders-are-the-due}
 use Rattle.book.specs.Shown.{Exact}
 use Rattle.book.proofs.Earliest.{end-decides}

@@ -1,11 +1,11 @@
 -- Which items are opened, and which are selected.
-use mathlib.Core.Path.{_≡_, refl, sym, ap, subst, _∙_}
-use mathlib.Core.Bool.{Bool, true, false, _&&_}
-use mathlib.Core.List.{List, [], _∷_, _++_}
-use Prim.Native.Nat.{ℕ, _≤_, _<_}
+use mathlib.Core.Path.{_≡_, ap, _∙_}
+use mathlib.Core.Bool.{Bool, true, _&&_}
+use mathlib.Core.List.{List, _++_}
+use Prim.Native.Nat.{ℕ}
 use native.Mathlib.Omega.{arith}
 use lib.Dec.{leb}
-use Rattle.std.proofs.shelf.Tests.{le-leb, leb-true, lt-leb, and-parts, and-left, and-right}
+use Rattle.std.proofs.shelf.Tests.{le-leb, leb-true, and-parts}
 use Rattle.book.specs.declared.event.Event.{Event}
 use Rattle.book.specs.Catalogue.{opened}
 use Rattle.book.specs.Machines.{Selecting, run, marking, selected}

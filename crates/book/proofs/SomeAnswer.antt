@@ -1,8 +1,8 @@
 -- Where a table fits, each call has an answer that keeps the promise.
-use mathlib.Core.Path.{_≡_, refl, sym, ap, subst, _∙_}
-use mathlib.Core.Bool.{Bool, true, false}
+use mathlib.Core.Path.{refl}
+use mathlib.Core.Bool.{Bool}
 use mathlib.Core.List.{List, [], _∷_, _++_, map}
-use mathlib.Core.Logic.{_⊎_, inl, inr}
+use mathlib.Core.Logic.{inl, inr}
 use Prim.Native.Nat.{ℕ, _+_}
 use lib.ListN.{length, drop}
 use Rattle.std.specs.declared.result.Result.{Result}
@@ -12,13 +12,13 @@ use Rattle.book.specs.declared.answer.Order.{Order}
 use Rattle.book.specs.declared.answer.Totals.{Totals}
 use Rattle.book.specs.declared.answer.Refusal.{Refusal}
 use Rattle.book.specs.Catalogue.{Sound, opened}
-use Rattle.book.specs.Machines.{Machine, Selecting, Lawful, LawfulMarks}
-use Rattle.book.specs.Orders.{Due, Dropped, Held}
+use Rattle.book.specs.Machines.{Selecting, Lawful, LawfulMarks}
+use Rattle.book.specs.Orders.{Dropped}
 use Rattle.book.specs.Tables.{Fits}
 use Rattle.book.specs.Checks.{Accepts}
 use Rattle.book.specs.History.{Events-so-far}
 use Rattle.book.specs.Promise.{Exchange, exchange, call-of, orders-of, order, item-of, Keeps, Promise}
-use Rattle.book.specs.PromiseLaws.{Asked, asked, Some-answer}
+use Rattle.book.specs.PromiseLaws.{asked, Some-answer}
 use Rattle.book.specs.Shown.{Exact, Just-due}
 use Rattle.book.proofs.Earliest.{due-opened, is-due, is-dropped}
 use Rattle.book.proofs.ItemLists.{in-or-not, listed}

@@ -1,17 +1,16 @@
 -- The levels computed from a table that fits decide what the endings answer.
-use mathlib.Core.Path.{_≡_, refl, sym, ap, subst, _∙_}
-use mathlib.Core.Bool.{Bool, true, false, cond, not, _&&_, _||_}
+use mathlib.Core.Path.{_≡_, refl, sym, subst, _∙_}
+use mathlib.Core.Bool.{Bool, true, false, cond, not, _&&_}
 use mathlib.Core.List.{List, [], _∷_, _++_}
-use mathlib.Core.Logic.{_↔_, _⊎_, inl, inr}
-use Prim.Native.Nat.{ℕ, zero, suc, _+_, _≤_, _<_}
+use mathlib.Core.Logic.{_↔_, inl, inr}
+use Prim.Native.Nat.{ℕ, zero, suc, _<_}
 use native.Mathlib.Omega.{arith}
 use Rattle.std.proofs.shelf.Tests.{cases-lt, cases-bool, and-parts, and-from, or-cases, or-left, or-right, both-ways, not-true, not-from-false}
 use Rattle.book.specs.declared.event.Event.{Event}
-use Rattle.book.specs.Catalogue.{within, broken, nest, Sound}
-use Rattle.book.specs.Machines.{Machine, Selecting, Lawful, LawfulMarks, Stand, last, others, run, plainly, marking, accepted, selected}
-use Rattle.book.specs.Rows.{Reach}
+use Rattle.book.specs.Catalogue.{within, nest, Sound}
+use Rattle.book.specs.Machines.{Machine, Selecting, Lawful, Stand, last, others, run, plainly, marking, accepted, selected}
 use Rattle.book.specs.Levels.{Possible, Levels-tell}
-use Rattle.book.specs.Orders.{Every, Some, Opened, Due, Dropped, Held}
+use Rattle.book.specs.Orders.{Some, Opened}
 use Rattle.book.specs.Tables.{Fits, some-below, possible, may-end, Two-tests, Decided, Tables-decide-item, Tables-decide-acceptance}
 use Rattle.book.proofs.Nesting.{ending, within-not-broken}
 use Rattle.book.proofs.Ranges.{back-below, reach-below, plain-run-below, marked-run-below}

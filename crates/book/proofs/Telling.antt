@@ -1,23 +1,23 @@
 -- Each line of the checks can be told once those above it are: so each call has an outcome where a table fits.
 use mathlib.Core.Path.{_≡_, refl, sym, ap, subst, _∙_}
-use mathlib.Core.Bool.{Bool, true, false, cond}
+use mathlib.Core.Bool.{Bool, cond}
 use mathlib.Core.List.{List, [], _∷_, _++_}
-use mathlib.Core.Logic.{_⊎_, _≢_, inl, inr}
+use mathlib.Core.Logic.{_⊎_, inl, inr}
 use Prim.Native.Nat.{ℕ, _≤_, _<_}
 use native.Mathlib.Omega.{arith}
 use lib.ListN.{length}
-use Rattle.std.proofs.shelf.Tests.{cases-lt, cases-eq, cases-bool, lt-ltb}
+use Rattle.std.proofs.shelf.Tests.{cases-lt, cases-eq, lt-ltb}
 use Rattle.book.specs.Limits.{tags, most-open, most-items, most-held, least-room}
 use Rattle.book.specs.declared.event.Event.{Event}
 use Rattle.book.specs.declared.event.Event.the-variants.{Open, Close, End}
 use Rattle.book.specs.declared.answer.Refusal.{Refusal}
-use Rattle.book.specs.declared.answer.Refusal.the-variants.{NoStates, Ended, ShortList, BadTag, TooDeep, TooMany, HoldFull, NoneOpen, OtherTag, StillOpen}
+use Rattle.book.specs.declared.answer.Refusal.the-variants.{BadTag, TooDeep, TooMany, HoldFull, NoneOpen, OtherTag, StillOpen}
 use Rattle.book.specs.Catalogue.{Nest, within, over, broken, after, nest, Sound, opened}
 use Rattle.book.specs.Machines.{Machine, Selecting, Lawful, LawfulMarks}
 use Rattle.book.specs.Orders.{Held}
 use Rattle.book.specs.Tables.{Fits}
-use Rattle.book.specs.ItemLists.{Lists, Counts}
-use Rattle.book.specs.Checks.{scan-lines, watch-lines, Shared-met, Overfull, Met, None-met, Topmost, Accepts, Refuses, Watch-accepts, Watch-refuses}
+use Rattle.book.specs.ItemLists.{Lists}
+use Rattle.book.specs.Checks.{scan-lines, watch-lines, Shared-met, Overfull, Met, Accepts, Refuses, Watch-accepts, Watch-refuses}
 use Rattle.book.specs.History.{Bring, event-of, itself, Some-history}
 use Rattle.book.proofs.Nesting.{within-not-over, within-not-broken}
 use Rattle.book.proofs.Steps.{nest-more}

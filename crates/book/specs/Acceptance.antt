@@ -6,7 +6,6 @@ use Prim.Native.Nat.{ℕ, _≤_}
 use lib.ListN.{length, replicate}
 use Rattle.book.specs.declared.event.Event.{Event}
 use Rattle.book.specs.declared.event.Event.the-variants.{Open, Close, End}
-use Rattle.book.specs.declared.answer.Refusal.{Refusal}
 use Rattle.book.specs.declared.answer.Refusal.the-variants.{NoStates, Ended, ShortList, BadTag, TooDeep, TooMany, HoldFull, NoneOpen, OtherTag, StillOpen}
 use Rattle.book.specs.Refusals.{number}
 use Rattle.book.specs.Catalogue.{within, over, nest, Sound, opened}

@@ -1,6 +1,6 @@
 -- What is proved of the promise of a scan, whoever keeps it.
 use mathlib.Core.Path.{_≡_}
-use mathlib.Core.Bool.{Bool, true, false}
+use mathlib.Core.Bool.{Bool, true}
 use mathlib.Core.List.{List, [], _∷_, _++_, map}
 use mathlib.Core.Logic.{_↔_, _⊎_}
 use Prim.Native.Nat.{ℕ, suc, _+_, _≤_}
@@ -12,7 +12,7 @@ use Rattle.book.specs.declared.event.Event.the-variants.{Open}
 use Rattle.book.specs.declared.answer.Order.{Order}
 use Rattle.book.specs.declared.answer.Totals.{Totals}
 use Rattle.book.specs.declared.answer.Refusal.{Refusal}
-use Rattle.book.specs.Catalogue.{nest, over, Sound, opened}
+use Rattle.book.specs.Catalogue.{nest, over, opened}
 use Rattle.book.specs.Machines.{Selecting, Lawful, LawfulMarks, selected}
 use Rattle.book.specs.Orders.{Due, Dropped, Held}
 use Rattle.book.specs.Tables.{Fits}

@@ -12,7 +12,7 @@ use Rattle.book.specs.Machines.{Selecting}
 use Rattle.book.specs.Orders.{Due, Dropped, Held}
 use Rattle.book.specs.ItemLists.{In, Once, Lists, Counts}
 use Rattle.book.specs.Checks.{Accepts}
-use Rattle.book.specs.Promise.{Exchange, order, item-of, Fulfilled, Keeps}
+use Rattle.book.specs.Promise.{Exchange, order, item-of, Fulfilled}
 
 -- the events break no rule, and the orders given are those of just the due items, each once
 pub record Exact (m : Selecting) (h : List Event) (given : List Order) : Type 0 where

@@ -6,7 +6,7 @@ use mathlib.Core.Logic.{_↔_}
 use Prim.Native.Nat.{ℕ, zero, suc, _<_}
 use Rattle.book.specs.declared.event.Event.{Event}
 use Rattle.book.specs.Catalogue.{nest, within}
-use Rattle.book.specs.Machines.{Machine, Selecting, Lawful, LawfulMarks, Stand, last, others, run, plainly, marking, accepted, selected}
+use Rattle.book.specs.Machines.{Machine, Selecting, Lawful, LawfulMarks, Stand, last, others, run, plainly, marking, accepted}
 use Rattle.book.specs.Rows.{Reach}
 use Rattle.book.specs.Orders.{Every, Some, Opened, Due, Dropped, Held}
 
