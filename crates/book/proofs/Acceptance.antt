@@ -172,7 +172,8 @@ accepted-calls m h room t s = (
         let none = shared-unmet m h room (Open t) ok in
         let o = unmet-open (m .shape) h t s none in
         (has-states (m .shape) h (Open t) none, enough-room m h room (Open t) ok, o .0, o .1, o .2, not-overfull m (h ++ (Open t ∷ [])) .0 (unmet m h room (Open t) ok HoldFull)),
-    λ x. accepts m h room (Open t) (scan-unmet m h room (Open t) (open-unmet (m .shape) h (x .0) (x .3 .0) (x .3 .1) t (x .2) (x .3 .2) (x .4)) (x .1) (not-overfull m (h ++ (Open t ∷ [])) .1 (x .5))),
+    λ x. accepts m h room (Open t) (scan-unmet m h room (Open t) (open-unmet (m .shape) h (x .0) (x .3 .0) (x .3 .1) t (x .2) (x .3 .2) (x .4)) (x .1)
+        (not-overfull m (h ++ (Open t ∷ [])) .1 (x .5))),
   ),
   (
     λ ok. let none = shared-unmet m h room (Close t) ok in (has-states (m .shape) h (Close t) none, enough-room m h room (Close t) ok, unmet-close (m .shape) h t s none),
@@ -279,7 +280,15 @@ history-within-limits = (
 -- so few items cannot fill the hold
 pub sixty-four-deep : Sixty-four-deep
 sixty-four-deep m some = (
-  accepted-calls m (replicate 63 (Open 0)) 129 0 (λ b. within-not-broken (replicate 63 0) b) .0 .1
-      (some, omega arith, omega arith, (replicate 63 0, refl, omega arith), omega arith, λ n c. let a = counts-most (Held m (replicate 63 (Open 0) ++ (Open 0 ∷ []))) n 64 c (λ i held. held .0 .1) in omega arith),
+  accepted-calls m (replicate 63 (Open 0)) 129 0 (λ b. within-not-broken (replicate 63 0) b) .0 .1 (
+    some,
+    omega arith,
+    omega arith,
+    (replicate 63 0, refl, omega arith),
+    omega arith,
+    λ n c.
+        let a = counts-most (Held m (replicate 63 (Open 0) ++ (Open 0 ∷ []))) n 64 c (λ i held. held .0 .1) in
+        omega arith,
+  ),
   calls-are-refused m (replicate 64 (Open 0)) 129 .too-deep 0 (replicate 64 0) (some, omega arith, refl) (omega arith) (omega arith),
 )

@@ -111,7 +111,8 @@ pub exact-step : (m : Selecting) (h : List Event) (given : List Order) (x : Exch
     → Exact m (with-event h (x .call) a) (with-orders given a (x .later))
 exact-step m h given x (Ok a) ex k =
     exact-on m h given x (a .orders) ex (k .accepted)
-    (ordering-alike (Newly-due m h (x .call)) (Just-due m h (x .call)) (plus h (x .call)) x (a .orders) (λ i. let j = just-newly m h (x .call) (ex .sound) i in (j .1, j .0)) (k .orders))
+    (ordering-alike (Newly-due m h (x .call)) (Just-due m h (x .call)) (plus h (x .call)) x (a .orders)
+    (λ i. let j = just-newly m h (x .call) (ex .sound) i in (j .1, j .0)) (k .orders))
 exact-step m h given x (Err r) ex k = ex
 
 -- What is shown is enough -----------------------------------------------------------------------------------------

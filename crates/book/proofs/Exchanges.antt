@@ -100,8 +100,14 @@ module _ {C X : Type 0} (so-far : List C → List Event → Type 0) (call : X �
     some-from done [] kept = (done, sym (append-nil (map asked done)), kept)
     some-from done (a ∷ calls) kept =
         let x = any done kept a in
-        let r = some-from (done ++ (x .0 ∷ [])) calls (x .2) in
-        (r .0, r .1 ∙ ap (λ (l : List A). l ++ calls) (map-append asked done (x .0 ∷ [])) ∙ append-assoc (map asked done) (asked (x .0) ∷ []) calls ∙ ap (λ (z : A). map asked done ++ (z ∷ calls)) (x .1), r .2)
+        let r = some-from (done ++ (x .0 ∷ [])) calls (x .2) in (
+          r .0,
+          r .1
+              ∙ ap (λ (l : List A). l ++ calls) (map-append asked done (x .0 ∷ []))
+              ∙ append-assoc (map asked done) (asked (x .0) ∷ []) calls
+              ∙ ap (λ (z : A). map asked done ++ (z ∷ calls)) (x .1),
+          r .2,
+        )
 
     pub some-exchanges : (calls : List A) → (xs : List X) × (map asked xs ≡ calls) × Each-kept so-far call keeps xs
     some-exchanges calls = some-from [] calls kept-none

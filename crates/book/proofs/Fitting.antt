@@ -83,7 +83,8 @@ module _ (m : Machine) (reach : ℕ → ℕ → Bool) (rows : ℕ → ℕ → Fo
   onward q p t p′ a b c d y z =
       let f = gives (reach q p) (every-below tags (λ u. every-below (m .width) (λ r. then (reach (m .enter p u) r) (reach q (m .back p r u)))))
       (each (m .width) (λ x. then (reach q x) (every-below tags (λ u. every-below (m .width) (λ r. then (reach (m .enter x u) r) (reach q (m .back x r u))))))
-      (each (m .width) (λ w. every-below (m .width) (λ x. then (reach w x) (every-below tags (λ u. every-below (m .width) (λ r. then (reach (m .enter x u) r) (reach w (m .back x r u))))))) t₃ q a) p b) y in
+      (each (m .width) (λ w. every-below (m .width) (λ x. then (reach w x)
+      (every-below tags (λ u. every-below (m .width) (λ r. then (reach (m .enter x u) r) (reach w (m .back x r u))))))) t₃ q a) p b) y in
       gives (reach (m .enter p t) p′) (reach q (m .back p p′ t))
       (each (m .width) (λ r. then (reach (m .enter p t) r) (reach q (m .back p r t)))
       (each tags (λ u. every-below (m .width) (λ r. then (reach (m .enter p u) r) (reach q (m .back p r u)))) f t c) p′ d) z

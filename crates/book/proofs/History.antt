@@ -25,7 +25,8 @@ bring-same event accepts refuses apart h (c ∷ cs) f g (inr a) (inr b) = bring-
 
 -- one call more
 pub bring-more : {C : Type 0} (event : C → Event) (accepts : List Event → C → Type 0) (refuses : List Event → C → Refusal → Type 0)
-    → (h : List Event) (cs : List C) (c : C) (f g : List Event) → Bring event accepts refuses h cs f → Bring event accepts refuses f (c ∷ []) g → Bring event accepts refuses h (cs ++ (c ∷ [])) g
+    → (h : List Event) (cs : List C) (c : C) (f g : List Event) → Bring event accepts refuses h cs f
+    → Bring event accepts refuses f (c ∷ []) g → Bring event accepts refuses h (cs ++ (c ∷ [])) g
 bring-more event accepts refuses h [] c f g a b = subst (λ (x : List Event). Bring event accepts refuses x (c ∷ []) g) a b
 bring-more event accepts refuses h (d ∷ cs) c f g (inl a) b = inl (a .0, bring-more event accepts refuses (h ++ (event d ∷ [])) cs c f g (a .1) b)
 bring-more event accepts refuses h (d ∷ cs) c f g (inr a) b = inr (a .0, bring-more event accepts refuses h cs c f g (a .1) b)

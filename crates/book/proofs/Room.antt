@@ -48,11 +48,13 @@ held-few : (m : Selecting) (h : List Event) (room : ℕ) (e : Event) (n k : ℕ)
 held-few m h room (Open t) n k ok c few d = not-overfull m (h ++ (Open t ∷ [])) .0 (unmet m h room (Open t) ok HoldFull) k d
 held-few m h room (Close t) n k ok c few d =
     let less = counts-fewer (Held m (h ++ (Close t ∷ []))) (Held m h) k n (opened h) d c
-    (λ i held. held-before m h (Close t ∷ []) i (held .0 .0, (let a = held .0 .1 in let b = opened-more h (Close t) in omega arith)) held) (λ i held. ((let a = held .0 .0 in omega arith), held .0 .1)) in
+    (λ i held. held-before m h (Close t ∷ []) i (held .0 .0, (let a = held .0 .1 in let b = opened-more h (Close t) in omega arith)) held)
+    (λ i held. ((let a = held .0 .0 in omega arith), held .0 .1)) in
     omega arith
 held-few m h room End n k ok c few d =
     let less = counts-fewer (Held m (h ++ (End ∷ []))) (Held m h) k n (opened h) d c
-    (λ i held. held-before m h (End ∷ []) i (held .0 .0, (let a = held .0 .1 in let b = opened-more h End in omega arith)) held) (λ i held. ((let a = held .0 .0 in omega arith), held .0 .1)) in
+    (λ i held. held-before m h (End ∷ []) i (held .0 .0, (let a = held .0 .1 in let b = opened-more h End in omega arith)) held)
+    (λ i held. ((let a = held .0 .0 in omega arith), held .0 .1)) in
     omega arith
 
 abbrev Few-held : Selecting → List Event → Type 0

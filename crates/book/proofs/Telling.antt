@@ -137,7 +137,17 @@ module _ (m : Selecting) (reach : ℕ → ℕ → Bool) (law : Lawful (m .shape)
       where
         by-call : (e : Event) (ts : List ℕ) → nest h ≡ within ts
             → Told (Met m h room e) (BadTag ∷ TooDeep ∷ TooMany ∷ HoldFull ∷ NoneOpen ∷ OtherTag ∷ StillOpen ∷ [])
-        by-call (Open t) ts at = (at-most-or-not tags t, λ small. (deep-or-not h ts at, λ _. (at-most-or-not most-items (opened h), λ _. (overfull-or-not (h ++ (Open t ∷ [])) (open-sound t ts at small), λ _. (never, λ _. (never, λ _. (never, λ _. tt)))))))
+        by-call (Open t) ts at = (
+          at-most-or-not tags t,
+          λ small. (
+            deep-or-not h ts at,
+            λ _. (
+              at-most-or-not most-items (opened h),
+              λ _.
+                  (overfull-or-not (h ++ (Open t ∷ [])) (open-sound t ts at small), λ _. (never, λ _. (never, λ _. (never, λ _. tt)))),
+            ),
+          ),
+        )
         by-call (Close t) ts at = (never, λ _. (never, λ _. (never, λ _. (never, λ _. (none-or-not h ts at, λ _. (other-or-not h ts at t, λ _. (never, λ _. tt)))))))
         by-call End ts at = (never, λ _. (never, λ _. (never, λ _. (never, λ _. (never, λ _. (never, λ _. (open-or-not h ts at, λ _. tt)))))))
 

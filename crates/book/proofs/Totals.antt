@@ -37,8 +37,14 @@ totals-true : (m : Selecting) (h : List Event) (given : List Order) (x : Exchang
     (a .opened ≡ opened now) × Counts (Due m now) (a .ordered) × Counts (Dropped m now) (a .dropped) × Counts (Held m now) (a .held) × (a .opened ≡ a .ordered + a .dropped + a .held)
 totals-true m h given x a ex k =
     let now : List Event = h ++ (x .call ∷ []) in
-    let many = orders-so-far (Newly-due m h (x .call)) now given x (a .orders) (k .orders) in
-    (k .opens, subst (Counts (Due m now)) (many ∙ sym (k .ordered)) (due-counted m now (given ++ take (a .orders) (x .later)) (exact-step m h given x (Ok a) ex k)), k .dropped, k .held, k .all)
+    let many = orders-so-far (Newly-due m h (x .call)) now given x (a .orders) (k .orders) in (
+      k .opens,
+      subst (Counts (Due m now)) (many ∙ sym (k .ordered))
+          (due-counted m now (given ++ take (a .orders) (x .later)) (exact-step m h given x (Ok a) ex k)),
+      k .dropped,
+      k .held,
+      k .all,
+    )
 
 pub totals-are-true : Totals-are-true
 totals-are-true m xs ys x a p ok =
