@@ -45,7 +45,7 @@ take-front : {A : Type 0} (xs ys : List A) → take (length xs) (xs ++ ys) ≡ x
 take-front [] ys = refl
 take-front (x ∷ xs) ys = ap (λ (r : List _). x ∷ r) (take-front xs ys)
 
-items-back : (h : List Event) (items : List ℕ) → map item-of (map (order h) items) ≡ items
+pub items-back : (h : List Event) (items : List ℕ) → map item-of (map (order h) items) ≡ items
 items-back h [] = refl
 items-back h (i ∷ items) = ap (λ (r : List ℕ). i ∷ r) (items-back h items)
 

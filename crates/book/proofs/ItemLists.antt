@@ -6,7 +6,7 @@ use mathlib.Core.Logic.{_↔_, _⊎_, _≢_, inl, inr}
 use Prim.Native.Nat.{ℕ, zero, suc, _+_, _≤_, _<_}
 use native.Mathlib.Omega.{arith}
 use lib.Dec.{eqb}
-use lib.ListN.{length}
+use lib.ListN.{length, getD}
 use Rattle.std.proofs.shelf.Tests.{cases-eq, eqb-true, eq-eqb, ne-eqb, or-cases, or-left, or-right, cases-bool, both-ways}
 use Rattle.book.specs.declared.event.Event.{Event}
 use Rattle.book.specs.Catalogue.{opened}
@@ -78,6 +78,18 @@ rising-same low low′ (x ∷ xs) (y ∷ ys) r s same =
     backward : (i : ℕ) → x ≡ y → In i (x ∷ xs) → In i ys → In i xs
     backward i e (inl f) h = let p = rising-above y ys i (s .1) h in absurd (omega arith)
     backward i e (inr a) h = a
+
+-- by their places, with any numbers behind them
+rising-from : (low : ℕ) (xs zs : List ℕ) (k : ℕ) → Rising low xs → k < length xs → low < getD (xs ++ zs) k 0
+rising-from low [] zs k r lt = absurd (omega arith)
+rising-from low (x ∷ xs) zs zero r lt = r .0
+rising-from low (x ∷ xs) zs (suc k) r lt = let a = r .0 in let b = rising-from x xs zs k (r .1) (omega arith) in omega arith
+
+pub rising-places : (low : ℕ) (xs zs : List ℕ) (j k : ℕ) → Rising low xs → j < k → k < length xs → getD (xs ++ zs) j 0 < getD (xs ++ zs) k 0
+rising-places low [] zs j k r lt le = absurd (omega arith)
+rising-places low (x ∷ xs) zs j zero r lt le = absurd (omega arith)
+rising-places low (x ∷ xs) zs zero (suc k) r lt le = rising-from x xs zs k (r .1) (omega arith)
+rising-places low (x ∷ xs) zs (suc j) (suc k) r lt le = rising-places x xs zs j k (r .1) (omega arith) (omega arith)
 
 pub lists-alike : (P Q : ℕ → Type 0) (xs : List ℕ) → ((i : ℕ) → P i ↔ Q i) → Lists P xs → Lists Q xs
 lists-alike P Q xs alike l = (l .0, λ i. (λ y. alike i .0 (l .1 i .0 y), λ q. l .1 i .1 (alike i .1 q)))

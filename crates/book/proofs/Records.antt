@@ -5,7 +5,7 @@ use mathlib.Core.List.{List, [], _∷_, _++_, map, append-assoc}
 use mathlib.Core.Logic.{_⊎_, _≢_, inl, inr}
 use Prim.Native.Nat.{ℕ, suc, pred, _≤_, _<_}
 use native.Mathlib.Omega.{arith}
-use lib.ListN.{length, take, length-append}
+use lib.ListN.{length, take, drop, getD, length-append}
 use Rattle.std.proofs.shelf.Tests.{cases-eq, cases-lt, eq-eqb, ne-eqb}
 use Rattle.std.specs.declared.result.Result.{Result}
 use Rattle.std.specs.declared.result.Result.the-variants.{Ok, Err}
@@ -18,14 +18,16 @@ use Rattle.book.specs.Catalogue.{opened, Sound}
 use Rattle.book.specs.Machines.{Selecting}
 use Rattle.book.specs.Orders.{Opened, Due}
 use Rattle.book.specs.ItemLists.{In}
-use Rattle.book.specs.Promise.{Exchange, opening, order, item-of, orders-of, with-orders, Newly-due, Answered}
-use Rattle.book.specs.PromiseLaws.{with-event, Opens-at, Due-at, Each, Has, Records-are-true, None-is-earlier}
+use Rattle.book.specs.Promise.{Exchange, opening, order, item-of, orders-of, with-orders, Newly-due, Fulfilled, Answered}
+use Rattle.book.specs.PromiseLaws.{with-event, events-of, Opens-at, Due-at, Each, Has, Records-are-true, Records-rise, None-is-earlier}
 use Rattle.book.specs.Shown.{Exact}
 use Rattle.book.proofs.Nesting.{count-shift}
+use Rattle.book.proofs.ItemLists.{rising-places}
+use Rattle.book.proofs.Exchanges.{map-append}
 use Rattle.book.proofs.Earliest.{sound-before, due-opened, due-on, order-right-if-due}
 use Rattle.book.proofs.Checks.{accepted-sound}
-use Rattle.book.proofs.Exact.{exact-none, exact-step, first-records}
-use Rattle.book.proofs.Runs.{over-run-at, exact-run}
+use Rattle.book.proofs.Exact.{exact-none, exact-step, first-records, items-back}
+use Rattle.book.proofs.Runs.{over-run-at, exact-run, keeps-here}
 
 -- The event that opens an item ------------------------------------------------------------------------------------
 
@@ -91,6 +93,23 @@ pub records-are-true : Records-are-true
 records-are-true m xs h p at =
     over-run-at m (λ given g. Exact m g given × Each (True-record m g) given) (exact-none m, tt)
     (λ given g x y k. (exact-step m g given x (x .answer) (y .0) k, records-step m g given x (x .answer) (y .0) k (y .1))) xs h p at .1
+
+-- By rising number ------------------------------------------------------------------------------------------------
+
+call-rises : (m : Selecting) (h : List Event) (given : List Order) (x : Exchange) (a : Totals) → Fulfilled m h given x a
+    → (j k : ℕ) → j < k → k < a .orders → getD (map item-of (x .later)) j 0 < getD (map item-of (x .later)) k 0
+call-rises m h given x a f j k less last =
+    let items : List ℕ = f .orders .0 in
+    let now : List Event = h ++ (x .call ∷ []) in
+    let behind : List Order = drop (length items) (x .before) in
+    let n = f .orders .2 in
+    let is : items ++ map item-of behind ≡ map item-of (x .later) =
+    sym (ap (map item-of) (f .orders .3) ∙ map-append item-of (map (order now) items) behind ∙ ap (λ (l : List ℕ). l ++ map item-of behind) (items-back now items)) in
+    subst (λ (l : List ℕ). getD l j 0 < getD l k 0) is (rising-places 0 items (map item-of behind) j k (f .orders .1 .0) less (omega arith))
+
+pub records-rise : Records-rise
+records-rise m xs ys x a p ok =
+    call-rises m (events-of ys) (orders-of ys) x a (subst (Answered m (events-of ys) (orders-of ys) x) (ok .1) (keeps-here m xs ys x (ok .0 .0) p (ok .0 .1)))
 
 -- Earliest --------------------------------------------------------------------------------------------------------
 

@@ -168,5 +168,13 @@ module _ (m : Selecting) (xs ys : List Exchange) (x : Exchange) (zs : List Excha
       let k : Answered m (events-of ys) (orders-of ys) x (Ok a) = subst (Answered m (events-of ys) (orders-of ys) x) ok (keeps-here m xs ys x zs p e) in
       (fits-list m (events-of ys) (orders-of ys) x a (exact-before m xs ys x zs p e) few-before k, behind-kept m (events-of ys) (orders-of ys) x a k)
 
+  refused-kept : (r : Refusal) → x .answer ≡ Err r → x .later ≡ x .before
+  refused-kept r err =
+      let k : Answered m (events-of ys) (orders-of ys) x (Err r) = subst (Answered m (events-of ys) (orders-of ys) x) err (keeps-here m xs ys x zs p e) in
+      k .1
+
 pub lists-are-kept : Lists-are-kept
-lists-are-kept = (λ m xs ys x a p ok. records-kept m xs ys x (ok .0 .0) p (ok .0 .1) a (ok .1), length-kept)
+lists-are-kept = (
+  λ m xs ys x a p ok. records-kept m xs ys x (ok .0 .0) p (ok .0 .1) a (ok .1),
+  λ m xs ys x zs p e. (refused-kept m xs ys x zs p e, length-kept m xs ys x zs p e),
+)

@@ -3,8 +3,8 @@ use mathlib.Core.Path.{_≡_}
 use mathlib.Core.Bool.{Bool, true}
 use mathlib.Core.List.{List, [], _∷_, _++_, map}
 use mathlib.Core.Logic.{_↔_, _⊎_}
-use Prim.Native.Nat.{ℕ, suc, _+_, _≤_}
-use lib.ListN.{length, drop}
+use Prim.Native.Nat.{ℕ, suc, _+_, _≤_, _<_}
+use lib.ListN.{length, drop, getD}
 use Rattle.std.specs.declared.result.Result.{Result}
 use Rattle.std.specs.declared.result.Result.the-variants.{Ok, Err}
 use Rattle.book.specs.declared.event.Event.{Event}
@@ -126,10 +126,16 @@ Totals-are-true = (m : Selecting) (xs ys : List Exchange) (x : Exchange) (a : To
     (a .opened ≡ opened now) × Counts (Due m now) (a .ordered) × Counts (Dropped m now) (a .dropped) × Counts (Held m now) (a .held)
     × (a .opened ≡ a .ordered + a .dropped + a .held)
 
--- No call orders more than 129 items, so that the orders fit; the records behind them are as they were, and no list
--- changes its length.
+-- The orders of one call stand first in its list, by rising item number.
+abbrev pub Records-rise : Type 0
+Records-rise = (m : Selecting) (xs ys : List Exchange) (x : Exchange) (a : Totals) → Promise m xs → Answered-ok xs ys x a →
+    (j k : ℕ) → j < k → k < a .orders → getD (map item-of (x .later)) j 0 < getD (map item-of (x .later)) k 0
+
+-- No call orders more than 129 items, so that the orders fit, and the records behind them are as they were; a refused
+-- call leaves its list as it was; and no list changes its length.
 abbrev pub Lists-are-kept : Type 0
 Lists-are-kept =
     ((m : Selecting) (xs ys : List Exchange) (x : Exchange) (a : Totals) → Promise m xs → Answered-ok xs ys x a →
     (a .orders ≤ 129) × (drop (a .orders) (x .later) ≡ drop (a .orders) (x .before)))
-    × ((m : Selecting) (xs ys : List Exchange) (x : Exchange) (zs : List Exchange) → Promise m xs → xs ≡ ys ++ (x ∷ zs) → length (x .later) ≡ length (x .before))
+    × ((m : Selecting) (xs ys : List Exchange) (x : Exchange) (zs : List Exchange) → Promise m xs → xs ≡ ys ++ (x ∷ zs) →
+    ((r : Refusal) → x .answer ≡ Err r → x .later ≡ x .before) × (length (x .later) ≡ length (x .before)))

@@ -5,7 +5,7 @@ ghost use Rattle.book.specs.Earliest.{Always-ending, Items-are-one-of-three, D
 ghost use Rattle.book.specs.Checks.{One-outcome, Refused-by-topmost, Accepted-stays-sound};
 ghost use Rattle.book.specs.Acceptance.{Accepted-calls, Accepted-watch-calls, Calls-are-refused, Watch-calls-are-refused, Numbers-of-lines, Tags-and-states, Sixty-four-deep, History-within-limits};
 ghost use Rattle.book.specs.History.{One-history, Some-history, History-is-sound};
-ghost use Rattle.book.specs.PromiseLaws.{One-answer, One-run, Some-answer, Answers-agree, Orders-are-the-due, Records-are-true, None-is-earlier, Totals-are-true, Lists-are-kept};
+ghost use Rattle.book.specs.PromiseLaws.{One-answer, One-run, Some-answer, Answers-agree, Orders-are-the-due, Records-are-true, Records-rise, None-is-earlier, Totals-are-true, Lists-are-kept};
 ghost use Rattle.book.specs.Shown.{Shown-is-enough};
 ghost use Rattle.book.specs.Watch.{Verdicts-mean, One-verdict, End-verdict, Verdicts-of-runs, One-watch-run, Some-watch-answer, Watch-answers-agree};
 
@@ -245,6 +245,13 @@ pub fn records_are_true_stands() -> u8
     0
 }
 
+// The orders of one call stand first in its list, by rising item number.
+pub fn records_rise_stands() -> u8
+    ensures { λ _. ⌜ Records-rise ⌝ }
+{
+    0
+}
+
 // Whoever gives a right order, by whatever rule, gives it no earlier than a scan that keeps the promise.
 pub fn none_is_earlier_stands() -> u8
     ensures { λ _. ⌜ None-is-earlier ⌝ }
@@ -259,7 +266,7 @@ pub fn totals_are_true_stands() -> u8
     0
 }
 
-// No call orders more than 129 items; the records behind the orders and the length of the list stay.
+// No call orders more than 129 items; the other records stay, and so does a list at a refusal.
 pub fn lists_are_kept_stands() -> u8
     ensures { λ _. ⌜ Lists-are-kept ⌝ }
 {
