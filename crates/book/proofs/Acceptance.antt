@@ -19,13 +19,13 @@ use Rattle.book.specs.Orders.{Held}
 use Rattle.book.specs.ItemLists.{Counts}
 use Rattle.book.specs.Checks.{Shared-met, Overfull, Met, Topmost, Accepts, Refuses, Watch-refuses}
 use Rattle.book.specs.Acceptance.{Numbers-of-lines, Tags-and-states, Open-items, Accepted-calls, Accepted-watch-calls, Ready-for, Calls-are-refused, Watch-ready-for, Watch-calls-are-refused, Within-limits, History-within-limits, Sixty-four-deep}
-use Rattle.book.proofs.Nesting.{within-not-over, within-not-broken, events-bounded}
+use Rattle.book.proofs.Nesting.{within-not-over, within-not-broken, same-open, events-bounded}
 use Rattle.book.proofs.Steps.{nest-more, opened-more}
 use Rattle.book.proofs.ItemLists.{counts-most}
 use Rattle.book.proofs.Checks.{unmet, accepts, watch-unmet, watch-accepts, shared-unmet, unmet-sound}
 use Rattle.book.proofs.History.{sound-none, events-keep, watched-keep}
 use Rattle.book.proofs.Exchanges.{cons-not-nil}
-use Rattle.book.proofs.Telling.{open-items, same-open, same-head}
+use Rattle.book.proofs.Telling.{open-items, same-head}
 
 -- Numbers ---------------------------------------------------------------------------------------------------------
 

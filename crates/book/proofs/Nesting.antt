@@ -40,6 +40,21 @@ pub over-only-empty : (e : List Event) → follow after over e ≡ over → e �
 over-only-empty [] h = refl
 over-only-empty (x ∷ e) h = absurd (not-from-broken e h)
 
+pub same-open : (ts us : List ℕ) → within ts ≡ within us → ts ≡ us
+same-open ts us e = cc
+
+-- a broken rule, or the end, leaves no item open
+pub broken-not-within : (e : List Event) (ts : List ℕ) → follow after broken e ≡ within ts → ⊥
+broken-not-within e ts at = within-not-broken ts (sym at ∙ stays-broken e)
+
+pub over-not-within : (e : List Event) (ts : List ℕ) → follow after over e ≡ within ts → ⊥
+over-not-within [] ts at = within-not-over ts (sym at)
+over-not-within (x ∷ e) ts at = broken-not-within e ts at
+
+pub passed-within : (b : Bool) (us : List ℕ) (e : List Event) (ts : List ℕ) → follow after (cond b (within us) broken) e ≡ within ts → follow after (within us) e ≡ within ts
+passed-within true us e ts at = at
+passed-within false us e ts at = absurd (broken-not-within e ts at)
+
 -- a test that was passed
 pub passed : (b : Bool) (n : Nest) (e : List Event) → follow after (cond b n broken) e ≡ over → (b ≡ true) × (follow after n e ≡ over)
 passed true n e h = (refl, h)

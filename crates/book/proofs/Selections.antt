@@ -1,5 +1,5 @@
 -- Which items are opened, and which are selected.
-use mathlib.Core.Path.{_≡_, ap, _∙_}
+use mathlib.Core.Path.{_≡_, sym, ap, _∙_}
 use mathlib.Core.Bool.{Bool, true, _&&_}
 use mathlib.Core.List.{List, _++_}
 use Prim.Native.Nat.{ℕ}
@@ -10,6 +10,7 @@ use Rattle.book.specs.declared.event.Event.{Event}
 use Rattle.book.specs.Catalogue.{opened}
 use Rattle.book.specs.Machines.{Selecting, run, marking, selected}
 use Rattle.book.specs.Orders.{Opened}
+use Rattle.book.specs.Runs.{Selected-by-own-run}
 use Rattle.book.proofs.Nesting.{opened-grows}
 
 pub opened-on : (h e : List Event) (i : ℕ) → Opened h i → Opened (h ++ e) i
@@ -28,3 +29,9 @@ selected-opened m i c s =
     let p = and-parts (leb 1 i && leb i (opened c)) v s in
     let r = and-parts (leb 1 i) (leb i (opened c)) (p .0) in
     (leb-true 1 i (r .0), leb-true i (opened c) (r .1))
+
+pub selected-by-own-run : Selected-by-own-run
+selected-by-own-run m i c = (
+  λ s. let o = selected-opened m i c s in (o, sym (selected-is m i c o) ∙ s),
+  λ x. selected-is m i c (x .0) ∙ x .1,
+)

@@ -19,7 +19,7 @@ use Rattle.book.specs.Tables.{Fits}
 use Rattle.book.specs.ItemLists.{Lists}
 use Rattle.book.specs.Checks.{scan-lines, watch-lines, Shared-met, Overfull, Met, Accepts, Refuses, Watch-accepts, Watch-refuses}
 use Rattle.book.specs.History.{Bring, event-of, itself, Some-history}
-use Rattle.book.proofs.Nesting.{within-not-over, within-not-broken}
+use Rattle.book.proofs.Nesting.{within-not-over, within-not-broken, same-open}
 use Rattle.book.proofs.Steps.{nest-more}
 use Rattle.book.proofs.Earliest.{is-held}
 use Rattle.book.proofs.ItemLists.{listed, counts-same}
@@ -36,9 +36,6 @@ less-or-not a b = elim (cases-lt a b) [ inl y ↦ inl y | inr z ↦ inr (λ y. o
 
 at-most-or-not : (a b : ℕ) → Either (a ≤ b)
 at-most-or-not a b = elim (cases-lt b a) [ inl y ↦ inr (λ z. omega arith) | inr z ↦ inl z ]
-
-pub same-open : (ts us : List ℕ) → within ts ≡ within us → ts ≡ us
-same-open ts us e = cc
 
 pub same-head : (t u : ℕ) (ts us : List ℕ) → t ∷ ts ≡ u ∷ us → t ≡ u
 same-head t u ts us e = cc

@@ -5,6 +5,7 @@ pub mod Orders
 pub mod Rows
 pub mod Refusals
 pub mod Faults
+pub mod Runs
 pub mod Levels
 pub mod Tables
 pub mod Earliest

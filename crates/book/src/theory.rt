@@ -1,4 +1,5 @@
 // The theory of earliest orders: each function names one theorem, which the crate then has to prove.
+ghost use Rattle.book.specs.Runs.{Run-begins, Run-goes-on, One-aside-for-each, One-item-marked, Selected-by-own-run};
 ghost use Rattle.book.specs.Levels.{Levels-decide-selected, Levels-decide-accepted};
 ghost use Rattle.book.specs.Tables.{Tables-decide-item, Tables-decide-acceptance};
 ghost use Rattle.book.specs.Earliest.{Always-ending, Items-are-one-of-three, Decisions-last, End-decides, Right-if-due, Right-rule-orders-due, Order-right-if-due, Too-early-is-wrong};
@@ -8,6 +9,43 @@ ghost use Rattle.book.specs.History.{One-history, Some-history, History-is-sou
 ghost use Rattle.book.specs.PromiseLaws.{One-answer, One-run, Some-answer, Answers-agree, Orders-are-the-due, Records-are-true, Records-rise, None-is-earlier, Totals-are-true, Lists-are-kept};
 ghost use Rattle.book.specs.Shown.{Shown-is-enough};
 ghost use Rattle.book.specs.Watch.{Verdicts-mean, One-verdict, End-verdict, Verdicts-of-runs, One-watch-run, Some-watch-answer, Watch-answers-agree};
+
+// Runs ----------------------------------------------------------------------------------------------------------
+
+// A run begins in the start state.
+pub fn run_begins_stands() -> u8
+    ensures { λ _. ⌜ Run-begins ⌝ }
+{
+    0
+}
+
+// What an open, a close and the end do to a run.
+pub fn run_goes_on_stands() -> u8
+    ensures { λ _. ⌜ Run-goes-on ⌝ }
+{
+    0
+}
+
+// A run has set aside one state for each open item.
+pub fn one_aside_for_each_stands() -> u8
+    ensures { λ _. ⌜ One-aside-for-each ⌝ }
+{
+    0
+}
+
+// In the run of an item, that item alone is entered by mark.
+pub fn one_item_marked_stands() -> u8
+    ensures { λ _. ⌜ One-item-marked ⌝ }
+{
+    0
+}
+
+// An item is selected just if it is opened and its run ends in an accepting state.
+pub fn selected_by_own_run_stands() -> u8
+    ensures { λ _. ⌜ Selected-by-own-run ⌝ }
+{
+    0
+}
 
 // Levels and tables ---------------------------------------------------------------------------------------------
 
