@@ -1,4 +1,4 @@
-// The theory of earliest orders: each function names one theorem, which the crate then has to prove.
+// The theory of earliest orders: each function names a theorem, which the crate then has to prove.
 ghost use Rattle.book.specs.Runs.{Run-begins, Run-goes-on, One-aside-for-each, One-item-marked, Selected-by-own-run};
 ghost use Rattle.book.specs.Levels.{Levels-decide-selected, Levels-decide-accepted};
 ghost use Rattle.book.specs.Tables.{Tables-decide-item, Tables-decide-acceptance};
@@ -12,16 +12,10 @@ ghost use Rattle.book.specs.Watch.{Verdicts-mean, One-verdict, End-verdict, Ve
 
 // Runs ----------------------------------------------------------------------------------------------------------
 
-// A run begins in the start state.
-pub fn run_begins_stands() -> u8
-    ensures { λ _. ⌜ Run-begins ⌝ }
-{
-    0
-}
-
-// What an open, a close and the end do to a run.
+// How a run begins, and what an open, a close and the end do to it.
 pub fn run_goes_on_stands() -> u8
-    ensures { λ _. ⌜ Run-goes-on ⌝ }
+    ensures begins { λ _. ⌜ Run-begins ⌝ }
+    ensures goes { λ _. ⌜ Run-goes-on ⌝ }
 {
     0
 }
@@ -49,30 +43,20 @@ pub fn selected_by_own_run_stands() -> u8
 
 // Levels and tables ---------------------------------------------------------------------------------------------
 
-// Reach sets decide, level by level and both ways, what every and what some ending makes of an opened item.
-pub fn levels_decide_selected_stands() -> u8
-    ensures { λ _. ⌜ Levels-decide-selected ⌝ }
+// Reach sets decide, level by level and both ways, what every and what some ending makes of an opened item, and
+// whether the catalogue is accepted.
+pub fn levels_decide_stands() -> u8
+    ensures selected { λ _. ⌜ Levels-decide-selected ⌝ }
+    ensures accepted { λ _. ⌜ Levels-decide-accepted ⌝ }
 {
     0
 }
 
-// The same for whether the catalogue is accepted.
-pub fn levels_decide_accepted_stands() -> u8
-    ensures { λ _. ⌜ Levels-decide-accepted ⌝ }
-{
-    0
-}
-
-// With a table that fits, two computed tests decide whether an opened item is due, dropped or held.
-pub fn tables_decide_item_stands() -> u8
-    ensures { λ _. ⌜ Tables-decide-item ⌝ }
-{
-    0
-}
-
-// And whether all, none or some endings are accepted.
-pub fn tables_decide_acceptance_stands() -> u8
-    ensures { λ _. ⌜ Tables-decide-acceptance ⌝ }
+// With a table that fits, two computed tests decide whether an opened item is due, dropped or held, and whether all,
+// none or some endings are accepted.
+pub fn tables_decide_stands() -> u8
+    ensures item { λ _. ⌜ Tables-decide-item ⌝ }
+    ensures acceptance { λ _. ⌜ Tables-decide-acceptance ⌝ }
 {
     0
 }
@@ -160,51 +144,27 @@ pub fn accepted_stays_sound_stands() -> u8
     0
 }
 
-// Just when a call of a scan is accepted.
+// Just when a call is accepted.
 pub fn accepted_calls_stands() -> u8
-    ensures { λ _. ⌜ Accepted-calls ⌝ }
+    ensures scan { λ _. ⌜ Accepted-calls ⌝ }
+    ensures watch { λ _. ⌜ Accepted-watch-calls ⌝ }
 {
     0
 }
 
-// Just when a call of a watch is accepted.
-pub fn accepted_watch_calls_stands() -> u8
-    ensures { λ _. ⌜ Accepted-watch-calls ⌝ }
-{
-    0
-}
-
-// What a call of a scan is refused with.
+// What each call is refused with.
 pub fn calls_are_refused_stands() -> u8
-    ensures { λ _. ⌜ Calls-are-refused ⌝ }
+    ensures scan { λ _. ⌜ Calls-are-refused ⌝ }
+    ensures watch { λ _. ⌜ Watch-calls-are-refused ⌝ }
 {
     0
 }
 
-// What a call of a watch is refused with.
-pub fn watch_calls_are_refused_stands() -> u8
-    ensures { λ _. ⌜ Watch-calls-are-refused ⌝ }
-{
-    0
-}
-
-// The refusals of a scan are numbered 1 to 10 down the table.
-pub fn numbers_of_lines_stands() -> u8
-    ensures { λ _. ⌜ Numbers-of-lines ⌝ }
-{
-    0
-}
-
-// Tags are 0 to 31, and a book has at most 64 states.
-pub fn tags_and_states_stands() -> u8
-    ensures { λ _. ⌜ Tags-and-states ⌝ }
-{
-    0
-}
-
-// On any book a 64th nested item is accepted, and a 65th refused.
-pub fn sixty_four_deep_stands() -> u8
-    ensures { λ _. ⌜ Sixty-four-deep ⌝ }
+// The numbers of the refusals down the table, the numbers of tags and states, and the depth of items.
+pub fn numbers_stands() -> u8
+    ensures lines { λ _. ⌜ Numbers-of-lines ⌝ }
+    ensures limits { λ _. ⌜ Tags-and-states ⌝ }
+    ensures depth { λ _. ⌜ Sixty-four-deep ⌝ }
 {
     0
 }
@@ -241,16 +201,10 @@ pub fn history_within_limits_stands() -> u8
 
 // The promise of a scan -----------------------------------------------------------------------------------------
 
-// A call of a scan has one answer, and leaves one list.
+// A call of a scan has one answer and leaves one list, and so the same calls give the same exchanges throughout.
 pub fn one_answer_stands() -> u8
-    ensures { λ _. ⌜ One-answer ⌝ }
-{
-    0
-}
-
-// The same calls with the same lists give the same exchanges throughout.
-pub fn one_run_stands() -> u8
-    ensures { λ _. ⌜ One-run ⌝ }
+    ensures call { λ _. ⌜ One-answer ⌝ }
+    ensures run { λ _. ⌜ One-run ⌝ }
 {
     0
 }
