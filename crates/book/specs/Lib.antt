@@ -5,3 +5,15 @@ pub mod Orders
 pub mod Rows
 pub mod Refusals
 pub mod Faults
+pub mod Runs
+pub mod Levels
+pub mod Tables
+pub mod Earliest
+pub mod ItemLists
+pub mod Checks
+pub mod History
+pub mod Promise
+pub mod Shown
+pub mod PromiseLaws
+pub mod Watch
+pub mod Acceptance
