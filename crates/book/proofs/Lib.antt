@@ -1,0 +1,5 @@
+pub mod Catalogues
+pub mod Simulations
+pub mod Opposites
+pub mod Boths
+pub mod LevelShapes

@@ -5,3 +5,8 @@ pub mod Orders
 pub mod Rows
 pub mod Refusals
 pub mod Faults
+pub mod OutOfRange
+pub mod Places
+pub mod LevelShape
+pub mod Opposite
+pub mod Both
