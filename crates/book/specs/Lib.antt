@@ -8,5 +8,6 @@ pub mod Faults
 pub mod OutOfRange
 pub mod Places
 pub mod LevelShape
+pub mod Path
 pub mod Opposite
 pub mod Both

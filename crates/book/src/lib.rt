@@ -5,5 +5,6 @@ pub mod event;
 pub mod fault;
 pub mod level;
 pub mod opposite;
+pub mod path;
 pub mod selecting_book;
 pub mod shape_book;
