@@ -7,13 +7,13 @@ use Prim.Native.Nat.{ℕ, zero, suc, _+_, _-_, _*_, _/_, _%_, _^_, _≤_, _<_}
 use native.Mathlib.Nat.{pow-suc, div-eq-of-lt, add-mul-div-right, add-zero}
 use native.Mathlib.Omega.{arith}
 use lib.Dec.{ltb, leb, eqb}
-use lib.ListN.{length, getD, take, drop}
+use lib.ListN.{length, drop}
 use lib.Pow.{pow-pos}
 use lib.Seq.{drop-cons}
 use Rattle.std.specs.Orderings.{Decides}
 use Rattle.std.specs.shelf.Lists.{All}
 use Rattle.std.proofs.shelf.Bits.{pow-add, pow-below, shl-shr, mod-mul-add, div-mul-add}
-use Rattle.std.proofs.shelf.Lists.{length-take-le, getD-take, drop-all}
+use Rattle.std.proofs.shelf.Lists.{drop-all}
 use Rattle.std.proofs.shelf.Ways.{decides-at}
 use Rattle.std.proofs.shelf.Tests.{cases-lt, cases-eq, cases-bool, ltb-true, lt-ltb, le-ltb, le-leb, eqb-true, eqb-false, ne-eqb, eq-eqb, both-ways, and-parts, and-from, or-cases, or-left, or-right}
 use Rattle.book.specs.Limits.{tags}
@@ -85,143 +85,141 @@ fits-cases : {a : PathStep} {rest : List PathStep} {t : ℕ} {ts : List ℕ} →
 fits-cases (next-fits h f) = inl (h, f)
 fits-cases (passed-over d f) = inr (d, f)
 
-module _ (m : ℕ) (all : List PathStep) (some : 1 ≤ m) (whole : m ≤ length all) where
+module _ (steps : List PathStep) (some : 1 ≤ length steps) where
   -- what is left behind the first j steps
-  left-at : (j : ℕ) → j < m → drop j (take m all) ≡ step-at all j ∷ drop (suc j) (take m all)
-  left-at j h =
-      let l : j < length (take m all) = simp (length-take-le m all whole) h in
-      drop-cons (take m all) j _ l ∙ ap (λ (a : PathStep). a ∷ drop (suc j) (take m all)) (getD-take m all j _ h)
+  left-at : (j : ℕ) → j < length steps → drop j steps ≡ step-at steps j ∷ drop (suc j) steps
+  left-at j h = drop-cons steps j _ h
 
   -- The set s waits for the tags ts: from a place of s on they fit.
   Waits : ℕ → List ℕ → Type 0
-  Waits s ts = (j : ℕ) × (j < m) × (member s j ≡ true) × Fits (drop j (take m all)) ts
+  Waits s ts = (j : ℕ) × (j < length steps) × (member s j ≡ true) × Fits (drop j steps) ts
 
-  start-waits : (ts : List ℕ) → Waits 1 ts → Fits (take m all) ts
+  start-waits : (ts : List ℕ) → Waits 1 ts → Fits steps ts
   unfolding Waits
-  start-waits ts w = subst (λ (j : ℕ). Fits (drop j (take m all)) ts) (member-one (w .0) (w .2)) (w .3)
+  start-waits ts w = subst (λ (j : ℕ). Fits (drop j steps) ts) (member-one (w .0) (w .2)) (w .3)
 
-  waits-start : (ts : List ℕ) → Fits (take m all) ts → Waits 1 ts
+  waits-start : (ts : List ℕ) → Fits steps ts → Waits 1 ts
   unfolding Waits
   waits-start ts f = (0, omega arith, refl, f)
 
   -- the set inside an item with the tag t waits for what may follow t
-  enter-waits : (s t u : ℕ) (us : List ℕ) → Waits (enter-set m all s t) (u ∷ us) → Waits s (t ∷ u ∷ us)
+  enter-waits : (s t u : ℕ) (us : List ℕ) → Waits (enter-set steps s t) (u ∷ us) → Waits s (t ∷ u ∷ us)
   unfolding Waits
-  enter-waits s t u us w = from (w .0) (w .1) (w .3) (sym (member-set-of (λ j. keeps all s j || adds all s t j) m (w .0) (w .1)) ∙ w .2)
+  enter-waits s t u us w = from (w .0) (w .1) (w .3) (sym (member-set-of (λ j. keeps steps s j || adds steps s t j) (length steps) (w .0) (w .1)) ∙ w .2)
     where
-      kept : (j : ℕ) → j < m → Fits (drop j (take m all)) (u ∷ us) → keeps all s j ≡ true → Waits s (t ∷ u ∷ us)
+      kept : (j : ℕ) → j < length steps → Fits (drop j steps) (u ∷ us) → keeps steps s j ≡ true → Waits s (t ∷ u ∷ us)
       kept j h f e =
-          let p = and-parts (member s j) (descends (step-at all j .axis)) e in (
+          let p = and-parts (member s j) (descends (step-at steps j .axis)) e in (
             j,
             h,
             p .0,
             subst (λ (l : List PathStep). Fits l (t ∷ u ∷ us)) (sym (left-at j h))
-                (passed-over (descendant (step-at all j .axis) (p .1)) (subst (λ (l : List PathStep). Fits l (u ∷ us)) (left-at j h) f)),
+                (passed-over (descendant (step-at steps j .axis) (p .1)) (subst (λ (l : List PathStep). Fits l (u ∷ us)) (left-at j h) f)),
           )
 
-      added : (j : ℕ) → j < m → Fits (drop j (take m all)) (u ∷ us) → adds all s t j ≡ true → Waits s (t ∷ u ∷ us)
+      added : (j : ℕ) → j < length steps → Fits (drop j steps) (u ∷ us) → adds steps s t j ≡ true → Waits s (t ∷ u ∷ us)
       added zero h f e = absurd (let z : _≡_ {A = ℕ} 0 1 = cc in omega arith)
       added (suc j) h f e =
-          let p = and-parts (member s j) (fits (step-at all j) t) e in
-          let l : j < m = omega arith in
+          let p = and-parts (member s j) (fits (step-at steps j) t) e in
+          let l : j < length steps = omega arith in
           (j, l, p .0, subst (λ (l : List PathStep). Fits l (t ∷ u ∷ us)) (sym (left-at j l)) (next-fits (p .1) f))
 
-      from : (j : ℕ) → j < m → Fits (drop j (take m all)) (u ∷ us) → (keeps all s j || adds all s t j) ≡ true → Waits s (t ∷ u ∷ us)
-      from j h f e = elim (or-cases (keeps all s j) (adds all s t j) e) [ inl k ↦ kept j h f k | inr k ↦ added j h f k ]
+      from : (j : ℕ) → j < length steps → Fits (drop j steps) (u ∷ us) → (keeps steps s j || adds steps s t j) ≡ true → Waits s (t ∷ u ∷ us)
+      from j h f e = elim (or-cases (keeps steps s j) (adds steps s t j) e) [ inl k ↦ kept j h f k | inr k ↦ added j h f k ]
 
-  waits-enter : (s t u : ℕ) (us : List ℕ) → Waits s (t ∷ u ∷ us) → Waits (enter-set m all s t) (u ∷ us)
+  waits-enter : (s t u : ℕ) (us : List ℕ) → Waits s (t ∷ u ∷ us) → Waits (enter-set steps s t) (u ∷ us)
   unfolding Waits
   waits-enter s t u us w =
       elim (fits-cases (subst (λ (l : List PathStep). Fits l (t ∷ u ∷ us)) (left-at (w .0) (w .1)) (w .3))) [
-        | inl f ↦ elim (cases-lt (suc (w .0)) m) [ inl l ↦ next l (f .0) (f .1) | inr l ↦ absurd (past l (f .1)) ]
+        | inl f ↦ elim (cases-lt (suc (w .0)) (length steps)) [ inl l ↦ next l (f .0) (f .1) | inr l ↦ absurd (past l (f .1)) ]
         | inr f ↦ passing (f .0) (f .1)
       ]
     where
-      next : suc (w .0) < m → fits (step-at all (w .0)) t ≡ true → Fits (drop (suc (w .0)) (take m all)) (u ∷ us) → Waits (enter-set m all s t) (u ∷ us)
+      next : suc (w .0) < length steps → fits (step-at steps (w .0)) t ≡ true → Fits (drop (suc (w .0)) steps) (u ∷ us) → Waits (enter-set steps s t) (u ∷ us)
       next l e f = (
         suc (w .0),
         l,
-        member-set-of (λ j. keeps all s j || adds all s t j) m (suc (w .0)) l ∙ or-right (keeps all s (suc (w .0))) (adds all s t (suc (w .0))) (and-from (member s (w .0)) (fits (step-at all (w .0)) t) (w .2) e),
+        member-set-of (λ j. keeps steps s j || adds steps s t j) (length steps) (suc (w .0)) l ∙ or-right (keeps steps s (suc (w .0))) (adds steps s t (suc (w .0))) (and-from (member s (w .0)) (fits (step-at steps (w .0)) t) (w .2) e),
         f,
       )
 
-      past : m ≤ suc (w .0) → Fits (drop (suc (w .0)) (take m all)) (u ∷ us) → ⊥
-      past l f = none-fits-tag (subst (λ (x : List PathStep). Fits x (u ∷ us)) (drop-all (suc (w .0)) (take m all) (simp (length-take-le m all whole) l)) f)
+      past : length steps ≤ suc (w .0) → Fits (drop (suc (w .0)) steps) (u ∷ us) → ⊥
+      past l f = none-fits-tag (subst (λ (x : List PathStep). Fits x (u ∷ us)) (drop-all (suc (w .0)) steps l) f)
 
-      passing : step-at all (w .0) .axis ≡ Descendant → Fits (step-at all (w .0) ∷ drop (suc (w .0)) (take m all)) (u ∷ us) → Waits (enter-set m all s t) (u ∷ us)
+      passing : step-at steps (w .0) .axis ≡ Descendant → Fits (step-at steps (w .0) ∷ drop (suc (w .0)) steps) (u ∷ us) → Waits (enter-set steps s t) (u ∷ us)
       passing e f = (
         w .0,
         w .1,
-        member-set-of (λ j. keeps all s j || adds all s t j) m (w .0) (w .1) ∙ or-left (keeps all s (w .0)) (adds all s t (w .0)) (and-from (member s (w .0)) (descends (step-at all (w .0) .axis)) (w .2) (ap descends e)),
+        member-set-of (λ j. keeps steps s j || adds steps s t j) (length steps) (w .0) (w .1) ∙ or-left (keeps steps s (w .0)) (adds steps s t (w .0)) (and-from (member s (w .0)) (descends (step-at steps (w .0) .axis)) (w .2) (ap descends e)),
         subst (λ (l : List PathStep). Fits l (u ∷ us)) (sym (left-at (w .0) (w .1))) f,
       )
 
   -- all steps are matched at an item if the set waits for its tag alone
-  matches-waits : (s t : ℕ) → matches m all s t ≡ true → Waits s (t ∷ [])
+  matches-waits : (s t : ℕ) → matches steps s t ≡ true → Waits s (t ∷ [])
   unfolding Waits
   matches-waits s t e =
-      let p = and-parts (member s (m - 1)) (fits (step-at all (m - 1)) t) e in
-      let l : m - 1 < m = omega arith in
-      let n : length (take m all) ≤ suc (m - 1) = simp (length-take-le m all whole) (omega arith) in (
-        m - 1,
+      let p = and-parts (member s (length steps - 1)) (fits (step-at steps (length steps - 1)) t) e in
+      let l : length steps - 1 < length steps = omega arith in
+      let n : length steps ≤ suc (length steps - 1) = omega arith in (
+        length steps - 1,
         l,
         p .0,
-        subst (λ (x : List PathStep). Fits x (t ∷ [])) (sym (left-at (m - 1) l))
-            (next-fits (p .1) (subst (λ (x : List PathStep). Fits x []) (sym (drop-all (suc (m - 1)) (take m all) n)) none-left)),
+        subst (λ (x : List PathStep). Fits x (t ∷ [])) (sym (left-at (length steps - 1) l))
+            (next-fits (p .1) (subst (λ (x : List PathStep). Fits x []) (sym (drop-all (suc (length steps - 1)) steps n)) none-left)),
       )
 
-  waits-matches : (s t : ℕ) → Waits s (t ∷ []) → matches m all s t ≡ true
+  waits-matches : (s t : ℕ) → Waits s (t ∷ []) → matches steps s t ≡ true
   unfolding Waits
   waits-matches s t w =
       elim (fits-cases (subst (λ (l : List PathStep). Fits l (t ∷ [])) (left-at (w .0) (w .1)) (w .3))) [
-        | inl f ↦ elim (cases-lt (suc (w .0)) m) [
+        | inl f ↦ elim (cases-lt (suc (w .0)) (length steps)) [
           | inl l ↦ absurd (step-fits-none (subst (λ (x : List PathStep). Fits x []) (left-at (suc (w .0)) l) (f .1)))
-          | inr l ↦ at (w .0) (w .2) (f .0) (let h : w .0 < m = w .1 in omega arith)
+          | inr l ↦ at (w .0) (w .2) (f .0) (let h : w .0 < length steps = w .1 in omega arith)
         ]
         | inr f ↦ absurd (step-fits-none (f .1))
       ]
     where
-      at : (j : ℕ) → member s j ≡ true → fits (step-at all j) t ≡ true → j ≡ m - 1 → matches m all s t ≡ true
-      at j a b e = subst (λ (x : ℕ). (member s x && fits (step-at all x) t) ≡ true) e (and-from (member s j) (fits (step-at all j) t) a b)
+      at : (j : ℕ) → member s j ≡ true → fits (step-at steps j) t ≡ true → j ≡ length steps - 1 → matches steps s t ≡ true
+      at j a b e = subst (λ (x : ℕ). (member s x && fits (step-at steps x) t) ≡ true) e (and-from (member s j) (fits (step-at steps j) t) a b)
 
   -- the set inside items with these tags, the innermost first
   abbrev inside : List ℕ → ℕ
   inside [] = 1
-  inside (t ∷ ts) = enter-set m all (inside ts) t
+  inside (t ∷ ts) = enter-set steps (inside ts) t
 
-  inside-waits : (ts : List ℕ) (u : ℕ) (us : List ℕ) → Waits (inside ts) (u ∷ us) → Fits (take m all) (reverseAux ts (u ∷ us))
+  inside-waits : (ts : List ℕ) (u : ℕ) (us : List ℕ) → Waits (inside ts) (u ∷ us) → Fits steps (reverseAux ts (u ∷ us))
   inside-waits [] u us w = start-waits (u ∷ us) w
   inside-waits (t ∷ ts) u us w = inside-waits ts t (u ∷ us) (enter-waits (inside ts) t u us w)
 
-  waits-inside : (ts : List ℕ) (u : ℕ) (us : List ℕ) → Fits (take m all) (reverseAux ts (u ∷ us)) → Waits (inside ts) (u ∷ us)
+  waits-inside : (ts : List ℕ) (u : ℕ) (us : List ℕ) → Fits steps (reverseAux ts (u ∷ us)) → Waits (inside ts) (u ∷ us)
   waits-inside [] u us f = waits-start (u ∷ us) f
   waits-inside (t ∷ ts) u us f = waits-enter (inside ts) t u us (waits-inside ts t (u ∷ us) f)
 
-  matches-decides : (ts : List ℕ) (t : ℕ) → Decides (matches m all (inside ts) t) (Fits (take m all) (reverse (t ∷ ts)))
+  matches-decides : (ts : List ℕ) (t : ℕ) → Decides (matches steps (inside ts) t) (Fits steps (reverse (t ∷ ts)))
   matches-decides ts t = (λ e. inside-waits ts t [] (matches-waits (inside ts) t e), λ f. waits-matches (inside ts) t (waits-inside ts t [] f))
 
   -- Answers -------------------------------------------------------------------------------------------------------
 
-  inside-below : (ts : List ℕ) → inside ts < 2 ^ m
-  inside-below [] = pow-below 0 m (omega arith)
-  inside-below (t ∷ ts) = set-of-below (λ j. keeps all (inside ts) j || adds all (inside ts) t j) m
+  inside-below : (ts : List ℕ) → inside ts < 2 ^ length steps
+  inside-below [] = pow-below 0 (length steps) (omega arith)
+  inside-below (t ∷ ts) = set-of-below (λ j. keeps steps (inside ts) j || adds steps (inside ts) t j) (length steps)
 
-  enter-is : (s t : ℕ) → s < 2 ^ m → t < tags → path-machine m all .enter s t ≡ enter-set m all s t
-  enter-is s t hs ht = simp (lt-ltb s (2 ^ m + 2) (omega arith), lt-ltb t tags ht, lt-ltb s (2 ^ m) hs)
+  enter-is : (s t : ℕ) → s < 2 ^ length steps → t < tags → path-machine steps .enter s t ≡ enter-set steps s t
+  enter-is s t hs ht = simp (lt-ltb s (2 ^ length steps + 2) (omega arith), lt-ltb t tags ht, lt-ltb s (2 ^ length steps) hs)
 
-  mark-is : (s t : ℕ) → s < 2 ^ m → t < tags → path-marks m all s t ≡ cond (matches m all s t) (hit m) (miss m)
-  mark-is s t hs ht = simp (lt-ltb s (2 ^ m + 2) (omega arith), lt-ltb t tags ht, lt-ltb s (2 ^ m) hs)
+  mark-is : (s t : ℕ) → s < 2 ^ length steps → t < tags → path-marks steps s t ≡ cond (matches steps s t) (hit (length steps)) (miss (length steps))
+  mark-is s t hs ht = simp (lt-ltb s (2 ^ length steps + 2) (omega arith), lt-ltb t tags ht, lt-ltb s (2 ^ length steps) hs)
 
-  back-outer : (s q t : ℕ) → s < 2 ^ m → q < 2 ^ m → t < tags → path-machine m all .back s q t ≡ s
+  back-outer : (s q t : ℕ) → s < 2 ^ length steps → q < 2 ^ length steps → t < tags → path-machine steps .back s q t ≡ s
   back-outer s q t hs hq ht =
-      simp (lt-ltb s (2 ^ m + 2) (omega arith), lt-ltb q (2 ^ m + 2) (omega arith), lt-ltb t tags ht, lt-ltb q (2 ^ m) hq)
+      simp (lt-ltb s (2 ^ length steps + 2) (omega arith), lt-ltb q (2 ^ length steps + 2) (omega arith), lt-ltb t tags ht, lt-ltb q (2 ^ length steps) hq)
 
   -- hit and miss stay themselves
-  enter-stays : (z t : ℕ) → 2 ^ m ≤ z → z < 2 ^ m + 2 → t < tags → path-machine m all .enter z t ≡ z
-  enter-stays z t low high ht = simp (lt-ltb z (2 ^ m + 2) high, lt-ltb t tags ht, le-ltb z (2 ^ m) low)
+  enter-stays : (z t : ℕ) → 2 ^ length steps ≤ z → z < 2 ^ length steps + 2 → t < tags → path-machine steps .enter z t ≡ z
+  enter-stays z t low high ht = simp (lt-ltb z (2 ^ length steps + 2) high, lt-ltb t tags ht, le-ltb z (2 ^ length steps) low)
 
-  back-stays : (z s t : ℕ) → 2 ^ m ≤ z → z < 2 ^ m + 2 → s < 2 ^ m + 2 → t < tags → path-machine m all .back s z t ≡ z
-  back-stays z s t low high hs ht = simp (lt-ltb s (2 ^ m + 2) hs, lt-ltb z (2 ^ m + 2) high, lt-ltb t tags ht, le-ltb z (2 ^ m) low)
+  back-stays : (z s t : ℕ) → 2 ^ length steps ≤ z → z < 2 ^ length steps + 2 → s < 2 ^ length steps + 2 → t < tags → path-machine steps .back s z t ≡ z
+  back-stays z s t low high hs ht = simp (lt-ltb s (2 ^ length steps + 2) hs, lt-ltb z (2 ^ length steps + 2) high, lt-ltb t tags ht, le-ltb z (2 ^ length steps) low)
 
   -- Runs ----------------------------------------------------------------------------------------------------------
 
@@ -230,43 +228,43 @@ module _ (m : ℕ) (all : List PathStep) (some : 1 ≤ m) (whole : m ≤ length 
   asides [] = []
   asides (t ∷ ts) = inside ts ∷ asides ts
 
-  asides-below : (ts : List ℕ) → All (λ q. q < 2 ^ m + 2) (asides ts)
+  asides-below : (ts : List ℕ) → All (λ q. q < 2 ^ length steps + 2) (asides ts)
   asides-below [] = tt
-  asides-below (t ∷ ts) = (let h : inside ts < 2 ^ m = inside-below ts in omega arith, asides-below ts)
+  asides-below (t ∷ ts) = (let h : inside ts < 2 ^ length steps = inside-below ts in omega arith, asides-below ts)
 
   module _ (i : ℕ) where
     -- the state in which the run ends that enters item i by mark
     abbrev ends : ℕ → List ℕ → ℕ → List Event → ℕ
-    ends q ss n c = follow (step (path-machine m all) (marking (selecting (path-machine m all) (path-marks m all)) i)) (stand q ss n) c .state
+    ends q ss n c = follow (step (path-machine steps) (marking (selecting (path-machine steps) (path-marks steps)) i)) (stand q ss n) c .state
 
     -- from hit or miss the run does not come away
-    ends-stays : (z : ℕ) (ss ts : List ℕ) (c : List Event) → 2 ^ m ≤ z → z < 2 ^ m + 2 → All (λ q. q < 2 ^ m + 2) ss → All (λ t. t < tags) ts
+    ends-stays : (z : ℕ) (ss ts : List ℕ) (c : List Event) → 2 ^ length steps ≤ z → z < 2 ^ length steps + 2 → All (λ q. q < 2 ^ length steps + 2) ss → All (λ t. t < tags) ts
         → follow after (within ts) c ≡ over → ends z ss i c ≡ z
     ends-stays z ss ts c low high below small h =
-        stays (path-machine m all) (marking (selecting (path-machine m all) (path-marks m all)) i) z i high
-        (λ k t later ht. ap (λ (b : Bool). cond b (path-marks m all z t) (path-machine m all .enter z t)) (ne-eqb k i (λ e. omega arith)) ∙ enter-stays z t low high ht)
+        stays (path-machine steps) (marking (selecting (path-machine steps) (path-marks steps)) i) z i high
+        (λ k t later ht. ap (λ (b : Bool). cond b (path-marks steps z t) (path-machine steps .enter z t)) (ne-eqb k i (λ e. omega arith)) ∙ enter-stays z t low high ht)
         (λ s t hs ht. back-stays z s t low high hs ht)
         c (stand z ss i) ts refl (omega arith) below small h
 
     -- item i opens
     marked : (t : ℕ) (ts : List ℕ) (c : List Event) → t < tags → All (λ u. u < tags) ts → follow after (within (t ∷ ts)) c ≡ over
-        → Decides (eqb (ends (path-marks m all (inside ts) t) (inside ts ∷ asides ts) i c) (hit m)) (Fits (take m all) (reverse (t ∷ ts)))
+        → Decides (eqb (ends (path-marks steps (inside ts) t) (inside ts ∷ asides ts) i c) (hit (length steps))) (Fits steps (reverse (t ∷ ts)))
     marked t ts c ht small h =
-        decides-at _ (matches m all (inside ts) t)
-        (ap (λ (q : ℕ). eqb (ends q (inside ts ∷ asides ts) i c) (hit m)) (mark-is (inside ts) t (inside-below ts) ht) ∙ by (matches m all (inside ts) t))
+        decides-at _ (matches steps (inside ts) t)
+        (ap (λ (q : ℕ). eqb (ends q (inside ts ∷ asides ts) i c) (hit (length steps))) (mark-is (inside ts) t (inside-below ts) ht) ∙ by (matches steps (inside ts) t))
         (matches-decides ts t)
       where
-        by : (b : Bool) → eqb (ends (cond b (hit m) (miss m)) (inside ts ∷ asides ts) i c) (hit m) ≡ b
+        by : (b : Bool) → eqb (ends (cond b (hit (length steps)) (miss (length steps))) (inside ts ∷ asides ts) i c) (hit (length steps)) ≡ b
         by true =
-            eq-eqb (ends (hit m) (inside ts ∷ asides ts) i c) (hit m)
-            (ends-stays (hit m) (inside ts ∷ asides ts) (t ∷ ts) c (omega arith) (omega arith) (asides-below (t ∷ ts)) (ht, small) h)
+            eq-eqb (ends (hit (length steps)) (inside ts ∷ asides ts) i c) (hit (length steps))
+            (ends-stays (hit (length steps)) (inside ts ∷ asides ts) (t ∷ ts) c (omega arith) (omega arith) (asides-below (t ∷ ts)) (ht, small) h)
         by false =
-            let e : ends (miss m) (inside ts ∷ asides ts) i c ≡ miss m =
-            ends-stays (miss m) (inside ts ∷ asides ts) (t ∷ ts) c (omega arith) (omega arith) (asides-below (t ∷ ts)) (ht, small) h in
-            ne-eqb (ends (miss m) (inside ts ∷ asides ts) i c) (hit m) (λ f. omega arith)
+            let e : ends (miss (length steps)) (inside ts ∷ asides ts) i c ≡ miss (length steps) =
+            ends-stays (miss (length steps)) (inside ts ∷ asides ts) (t ∷ ts) c (omega arith) (omega arith) (asides-below (t ∷ ts)) (ht, small) h in
+            ne-eqb (ends (miss (length steps)) (inside ts ∷ asides ts) i c) (hit (length steps)) (λ f. omega arith)
 
     path-from : (c : List Event) (ts : List ℕ) (n : ℕ) → n < i → i ≤ follow count n c → All (λ t. t < tags) ts → follow after (within ts) c ≡ over
-        → Decides (eqb (ends (inside ts) (asides ts) n c) (hit m)) (Fits (take m all) (tags-to-from ts n i c))
+        → Decides (eqb (ends (inside ts) (asides ts) n c) (hit (length steps))) (Fits steps (tags-to-from ts n i c))
     path-from [] ts n above most small h = absurd (within-not-over ts h)
     path-from (Open t ∷ c) ts n above most small h =
         elim (cases-eq (suc n) i) [ inl e ↦ here e | inr e ↦ there e (path-from c (t ∷ ts) (suc n) (omega arith) most (ht, small) rest) ]
@@ -280,24 +278,24 @@ module _ (m : ℕ) (all : List PathStep) (some : 1 ≤ m) (whole : m ≤ length 
         -- by whether the item is item i
         Goal : Bool → Type 0
         Goal b =
-            Decides (eqb (ends (cond b (path-marks m all (inside ts) t) (path-machine m all .enter (inside ts) t)) (inside ts ∷ asides ts) (suc n) c) (hit m))
-            (Fits (take m all) (cond b (reverse (t ∷ ts)) (tags-to-from (t ∷ ts) (suc n) i c)))
+            Decides (eqb (ends (cond b (path-marks steps (inside ts) t) (path-machine steps .enter (inside ts) t)) (inside ts ∷ asides ts) (suc n) c) (hit (length steps)))
+            (Fits steps (cond b (reverse (t ∷ ts)) (tags-to-from (t ∷ ts) (suc n) i c)))
 
         here : suc n ≡ i → Goal (eqb (suc n) i)
         here e =
             subst Goal (sym (eq-eqb (suc n) i e))
-            (subst (λ (k : ℕ). Decides (eqb (ends (path-marks m all (inside ts) t) (inside ts ∷ asides ts) k c) (hit m)) (Fits (take m all) (reverse (t ∷ ts)))) (sym e) (marked t ts c ht small rest))
+            (subst (λ (k : ℕ). Decides (eqb (ends (path-marks steps (inside ts) t) (inside ts ∷ asides ts) k c) (hit (length steps))) (Fits steps (reverse (t ∷ ts)))) (sym e) (marked t ts c ht small rest))
 
-        there : (suc n ≡ i → ⊥) → Decides (eqb (ends (inside (t ∷ ts)) (asides (t ∷ ts)) (suc n) c) (hit m)) (Fits (take m all) (tags-to-from (t ∷ ts) (suc n) i c)) → Goal (eqb (suc n) i)
+        there : (suc n ≡ i → ⊥) → Decides (eqb (ends (inside (t ∷ ts)) (asides (t ∷ ts)) (suc n) c) (hit (length steps))) (Fits steps (tags-to-from (t ∷ ts) (suc n) i c)) → Goal (eqb (suc n) i)
         there e more =
             subst Goal (sym (ne-eqb (suc n) i e))
-            (subst (λ (q : ℕ). Decides (eqb (ends q (inside ts ∷ asides ts) (suc n) c) (hit m)) (Fits (take m all) (tags-to-from (t ∷ ts) (suc n) i c)))
+            (subst (λ (q : ℕ). Decides (eqb (ends q (inside ts ∷ asides ts) (suc n) c) (hit (length steps))) (Fits steps (tags-to-from (t ∷ ts) (suc n) i c)))
             (sym (enter-is (inside ts) t (inside-below ts) ht)) more)
     path-from (Close t ∷ c) [] n above most small h = absurd (broken-not-over c h)
     path-from (Close t ∷ c) (u ∷ ts) n above most small h =
         let p = passed (eqb u t) (within ts) c h in
         let ht : t < tags = subst (λ (x : ℕ). x < tags) (eqb-true u t (p .0)) (small .0) in
-        subst (λ (q : ℕ). Decides (eqb (ends q (asides ts) n c) (hit m)) (Fits (take m all) (tags-to-from ts n i c)))
+        subst (λ (q : ℕ). Decides (eqb (ends q (asides ts) n c) (hit (length steps))) (Fits steps (tags-to-from ts n i c)))
         (sym (back-outer (inside ts) (inside (u ∷ ts)) t (inside-below ts) (inside-below (u ∷ ts)) ht))
         (path-from c ts n above most (small .1) (p .1))
     path-from (End ∷ c) [] n above most small h =
@@ -305,7 +303,7 @@ module _ (m : ℕ) (all : List PathStep) (some : 1 ≤ m) (whole : m ≤ length 
         absurd (omega arith)
     path-from (End ∷ c) (u ∷ ts) n above most small h = absurd (broken-not-over c h)
 
-  pub path-selects : Path-selects m all
+  pub path-selects : Path-selects steps
   path-selects c h i low high =
       decides-at _ _ (item (leb 1 i) (leb i (opened c)) _ (le-leb 1 i low) (le-leb i (opened c) high)) (path-from i c [] 0 low high tt h)
     where

@@ -8,7 +8,7 @@ use native.Mathlib.Nat.{pow-suc}
 use native.Mathlib.Omega.{arith}
 use borrow.Author.Tests.{ltb-true, ne-eqb}
 use lib.Dec.{eqb, leb, ltb}
-use lib.ListN.{length, getD, take}
+use lib.ListN.{length, getD, take, length-take}
 use lib.Pow.{pow-mono, pow-pos}
 use Rattle.std.specs.Orderings.{Decides}
 use Rattle.std.proofs.shelf.Tests.{and-parts}
@@ -67,7 +67,7 @@ step-at steps j = getD steps j (record { axis = Child; tag = Any })
 
 -- Meaning ---------------------------------------------------------------------------------------------------------
 
--- A state below 2 ^ m is a set: bit j says that the first j steps are matched.
+-- A state of a path of m steps below 2 ^ m is a set: bit j says that the first j steps are matched.
 abbrev pub member : ℕ → ℕ → Bool
 member s j = eqb (s / 2 ^ j % 2) 1
 
@@ -85,12 +85,12 @@ abbrev pub adds : List PathStep → ℕ → ℕ → ℕ → Bool
 adds steps s t zero = false
 adds steps s t (suc j) = member s j && fits (step-at steps j) t
 
-abbrev pub enter-set : ℕ → List PathStep → ℕ → ℕ → ℕ
-enter-set m steps s t = set-of (λ j. keeps steps s j || adds steps s t j) m
+abbrev pub enter-set : List PathStep → ℕ → ℕ → ℕ
+enter-set steps s t = set-of (λ j. keeps steps s j || adds steps s t j) (length steps)
 
--- are the m steps matched at an item with the tag t?
-abbrev pub matches : ℕ → List PathStep → ℕ → ℕ → Bool
-matches m steps s t = member s (m - 1) && fits (step-at steps (m - 1)) t
+-- are all steps matched at an item with the tag t?
+abbrev pub matches : List PathStep → ℕ → ℕ → Bool
+matches steps s t = member s (length steps - 1) && fits (step-at steps (length steps - 1)) t
 
 abbrev pub miss : ℕ → ℕ
 miss m = 2 ^ m
@@ -98,20 +98,20 @@ miss m = 2 ^ m
 abbrev pub hit : ℕ → ℕ
 hit m = 2 ^ m + 1
 
--- A path of m steps, the first m of those given. Hit and miss stay themselves; only hit accepts.
-abbrev pub path-machine : ℕ → List PathStep → Machine
-path-machine m steps =
+-- Hit and miss stay themselves; only hit accepts.
+abbrev pub path-machine : List PathStep → Machine
+path-machine steps =
     record {
-      width = 2 ^ m + 2;
+      width = 2 ^ length steps + 2;
       start = 1;
-      enter = λ s t. cond (ltb s (2 ^ m + 2) && ltb t tags) (cond (ltb s (2 ^ m)) (enter-set m steps s t) s) 0;
-      back = λ s q t. cond (ltb s (2 ^ m + 2) && (ltb q (2 ^ m + 2) && ltb t tags)) (cond (ltb q (2 ^ m)) s q) 0;
-      accepts = λ s. eqb s (hit m);
+      enter = λ s t. cond (ltb s (2 ^ length steps + 2) && ltb t tags) (cond (ltb s (2 ^ length steps)) (enter-set steps s t) s) 0;
+      back = λ s q t. cond (ltb s (2 ^ length steps + 2) && (ltb q (2 ^ length steps + 2) && ltb t tags)) (cond (ltb q (2 ^ length steps)) s q) 0;
+      accepts = λ s. eqb s (hit (length steps));
     }
 
-abbrev pub path-marks : ℕ → List PathStep → Marks
-path-marks m steps s t =
-    cond (ltb s (2 ^ m + 2) && ltb t tags) (cond (ltb s (2 ^ m)) (cond (matches m steps s t) (hit m) (miss m)) s) 0
+abbrev pub path-marks : List PathStep → Marks
+path-marks steps s t =
+    cond (ltb s (2 ^ length steps + 2) && ltb t tags) (cond (ltb s (2 ^ length steps)) (cond (matches steps s t) (hit (length steps)) (miss (length steps))) s) 0
 
 -- Rules of range --------------------------------------------------------------------------------------------------
 
@@ -132,45 +132,48 @@ hit-or-miss : (b : Bool) (m : ℕ) → cond b (hit m) (miss m) ≤ 2 ^ m + 1
 hit-or-miss true m = omega arith
 hit-or-miss false m = omega arith
 
-module _ (m : ℕ) (steps : List PathStep) where
-  in-range : (s t : ℕ) → (ltb s (2 ^ m + 2) && ltb t tags) ≡ true → (s < 2 ^ m + 2) × (t < tags)
+module _ (steps : List PathStep) where
+  in-range : (s t : ℕ) → (ltb s (2 ^ length steps + 2) && ltb t tags) ≡ true → (s < 2 ^ length steps + 2) × (t < tags)
   in-range s t e =
-      let p = and-parts (ltb s (2 ^ m + 2)) (ltb t tags) e in
-      (ltb-true s (2 ^ m + 2) (p .0), ltb-true t tags (p .1))
+      let p = and-parts (ltb s (2 ^ length steps + 2)) (ltb t tags) e in
+      (ltb-true s (2 ^ length steps + 2) (p .0), ltb-true t tags (p .1))
 
-  in-range-both : (s q t : ℕ) → (ltb s (2 ^ m + 2) && (ltb q (2 ^ m + 2) && ltb t tags)) ≡ true → (s < 2 ^ m + 2) × (q < 2 ^ m + 2) × (t < tags)
+  in-range-both : (s q t : ℕ) → (ltb s (2 ^ length steps + 2) && (ltb q (2 ^ length steps + 2) && ltb t tags)) ≡ true → (s < 2 ^ length steps + 2) × (q < 2 ^ length steps + 2) × (t < tags)
   in-range-both s q t e =
-      let p = and-parts (ltb s (2 ^ m + 2)) (ltb q (2 ^ m + 2) && ltb t tags) e in
+      let p = and-parts (ltb s (2 ^ length steps + 2)) (ltb q (2 ^ length steps + 2) && ltb t tags) e in
       let r = in-range q t (p .1) in
-      (ltb-true s (2 ^ m + 2) (p .0), r .0, r .1)
+      (ltb-true s (2 ^ length steps + 2) (p .0), r .0, r .1)
 
-  none-asked : (s t x : ℕ) → (2 ^ m + 2 ≤ s) ⊎ (tags ≤ t) → cond (ltb s (2 ^ m + 2) && ltb t tags) x 0 ≡ 0
+  none-asked : (s t x : ℕ) → (2 ^ length steps + 2 ≤ s) ⊎ (tags ≤ t) → cond (ltb s (2 ^ length steps + 2) && ltb t tags) x 0 ≡ 0
   none-asked s t x o =
-      answer-none (ltb s (2 ^ m + 2) && ltb t tags) x
+      answer-none (ltb s (2 ^ length steps + 2) && ltb t tags) x
       (λ e. let r = in-range s t e in absurd (⊎-elim (λ h. omega arith) (λ h. omega arith) o))
 
-  pub path-lawful : m ≤ most-steps → Lawful (path-machine m steps)
+  pub path-lawful : length steps ≤ most-steps → Lawful (path-machine steps)
   path-lawful few =
       record {
-        narrow = let p : 2 ^ m ≤ 2 ^ most-steps = pow-mono few in omega arith;
-        starts = let p : 0 < 2 ^ m = pow-pos m in omega arith;
-        enters = λ s t. answer-within (ltb s (2 ^ m + 2) && ltb t tags) (2 ^ m + 2) _
-            (λ e. from-set (ltb s (2 ^ m)) m s (enter-set m steps s t) (in-range s t e .0) (omega (arith, set-of-below (λ j. keeps steps s j || adds steps s t j) m)));
-        backs = λ s q t. answer-within (ltb s (2 ^ m + 2) && (ltb q (2 ^ m + 2) && ltb t tags)) (2 ^ m + 2) _
-            (λ e. let r = in-range-both s q t e in from-set (ltb q (2 ^ m)) m q s (r .1) (omega arith));
+        narrow = let p : 2 ^ length steps ≤ 2 ^ most-steps = pow-mono few in omega arith;
+        starts = let p : 0 < 2 ^ length steps = pow-pos (length steps) in omega arith;
+        enters = λ s t. answer-within (ltb s (2 ^ length steps + 2) && ltb t tags) (2 ^ length steps + 2) _
+            (λ e. from-set (ltb s (2 ^ length steps)) (length steps) s (enter-set steps s t) (in-range s t e .0) (omega (arith, set-of-below (λ j. keeps steps s j || adds steps s t j) (length steps))));
+        backs = λ s q t. answer-within (ltb s (2 ^ length steps + 2) && (ltb q (2 ^ length steps + 2) && ltb t tags)) (2 ^ length steps + 2) _
+            (λ e. let r = in-range-both s q t e in from-set (ltb q (2 ^ length steps)) (length steps) q s (r .1) (omega arith));
         no-enter = λ s t o. none-asked s t _ o;
-        no-back = λ s q t o. answer-none (ltb s (2 ^ m + 2) && (ltb q (2 ^ m + 2) && ltb t tags)) _
+        no-back = λ s q t o. answer-none (ltb s (2 ^ length steps + 2) && (ltb q (2 ^ length steps + 2) && ltb t tags)) _
             (λ e. let r = in-range-both s q t e in absurd (⊎-elim (λ h. omega arith) (⊎-elim (λ h. omega arith) (λ h. omega arith)) o));
-        no-accept = λ s h. ne-eqb s (hit m) (λ e. omega arith);
+        no-accept = λ s h. ne-eqb s (hit (length steps)) (λ e. omega arith);
       }
 
-  pub path-marks-lawful : LawfulMarks (path-machine m steps) (path-marks m steps)
+  pub path-marks-lawful : LawfulMarks (path-machine steps) (path-marks steps)
   path-marks-lawful =
       record {
-        marks = λ s t. answer-within (ltb s (2 ^ m + 2) && ltb t tags) (2 ^ m + 2) _
-            (λ e. from-set (ltb s (2 ^ m)) m s (cond (matches m steps s t) (hit m) (miss m)) (in-range s t e .0) (hit-or-miss (matches m steps s t) m));
+        marks = λ s t. answer-within (ltb s (2 ^ length steps + 2) && ltb t tags) (2 ^ length steps + 2) _
+            (λ e. from-set (ltb s (2 ^ length steps)) (length steps) s (cond (matches steps s t) (hit (length steps)) (miss (length steps))) (in-range s t e .0) (hit-or-miss (matches steps s t) (length steps)));
         no-mark = λ s t o. none-asked s t _ o;
       }
+
+pub take-few : (n : ℕ) (steps : List PathStep) → n ≤ most-steps → length (take n steps) ≤ most-steps
+take-few n steps few = simp length-take (omega arith)
 
 -- Law -------------------------------------------------------------------------------------------------------------
 
@@ -182,7 +185,7 @@ pub data Fits : List PathStep → List ℕ → Type 0 where
   passed-over : {a : PathStep} {t : ℕ} {steps : List PathStep} {ts : List ℕ} → a .axis ≡ Descendant → Fits (a ∷ steps) ts → Fits (a ∷ steps) (t ∷ ts)
 
 -- an item is selected just if the tags from the top down to it fit the steps
-abbrev pub Path-selects : ℕ → List PathStep → Type 0
-Path-selects m steps =
+abbrev pub Path-selects : List PathStep → Type 0
+Path-selects steps =
     (c : List Event) → Catalogue c → (i : ℕ) → 1 ≤ i → i ≤ opened c
-    → Decides (selected (selecting (path-machine m steps) (path-marks m steps)) i c) (Fits (take m steps) (tags-to i c))
+    → Decides (selected (selecting (path-machine steps) (path-marks steps)) i c) (Fits steps (tags-to i c))

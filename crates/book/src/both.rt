@@ -3,11 +3,9 @@ ghost use mathlib.Core.Path.{_≡_};
 ghost use Prim.Native.Nat.{_≤_};
 ghost use Rattle.book.specs.Limits.{most-states};
 ghost use Rattle.book.specs.Both.{both-width, both, both-marks, both-lawful, Both-accepts, Both-selects};
+use crate::limits::MOST_STATES;
 use crate::selecting_book::SelectingBook;
 use crate::shape_book::ShapeBook;
-
-// The greatest width of a book.
-const MOST_STATES: u16 = 64;
 
 // The state of the two is left * (width of the right) + right.
 pub struct Both<L: ShapeBook, R: ShapeBook> {

@@ -7,13 +7,9 @@ ghost use Rattle.book.specs.Limits.{most-depth};
 ghost use Rattle.book.specs.declared.fault.BookFault.the-variants.{LevelDepth};
 ghost use Rattle.book.specs.LevelShape.{depth-right, level-machine, level-lawful, Level-accepts};
 use crate::fault::BookFault;
+use crate::limits::MOST_DEPTH;
+use crate::limits::TAGS;
 use crate::shape_book::ShapeBook;
-
-// Tags are below it.
-const TAGS: u8 = 32;
-
-// The greatest depth.
-const MOST_DEPTH: u8 = 32;
 
 #[derive(Clone, Copy)]
 pub struct LevelShape {

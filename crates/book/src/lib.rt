@@ -4,6 +4,7 @@ pub mod both;
 pub mod event;
 pub mod fault;
 pub mod level;
+pub mod limits;
 pub mod opposite;
 pub mod path;
 pub mod selecting_book;

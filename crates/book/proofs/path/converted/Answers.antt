@@ -24,8 +24,5 @@ loop-place-again c =
 pub returns : need.returns
 returns c =
     let e : c .loop-place .place ≡ length (c .args .steps .now) = omega arith in
-    record {
-      whole = c .loop-place .inv .0;
-      value = ap (λ (n : ℕ). take n (c .loop-place .made)) (sym e) ∙ c .loop-place .inv .1
-          ∙ ap (map step-of) (take-all (c .loop-place .place) (c .args .steps .now) (omega arith));
-    }
+    ap (λ (n : ℕ). take n (c .loop-place .made)) (sym e) ∙ c .loop-place .inv .1
+    ∙ ap (map step-of) (take-all (c .loop-place .place) (c .args .steps .now) (omega arith))
