@@ -126,6 +126,12 @@ module _ (m n : Machine) (p : Lawful m) (q : Lawful n) (fits : Product-fits m n)
             (follow-related (Stands (m .width) (n .width)) (step (both m n) f) (λ o e. (step m g (o .0) e, step n h (o .1) e)) keep c
             (stand (both m n .start) [] 0) (stand (m .start) [] 0, stand (n .start) [] 0) begins)
 
+pub both-some : (m n : Machine) → Product-fits m n → 0 < both m n .width
+both-some m n fits =
+    let z : 0 * n .width + 0 < m .width * n .width = digits-lt (fits .0) (fits .1) in
+    let e : both m n .width ≡ m .width * n .width = ap (λ (b : Bool). cond b (m .width * n .width) 0) (le-leb (m .width * n .width) most-states (fits .2)) in
+    omega arith
+
 -- Laws ------------------------------------------------------------------------------------------------------------
 
 pub both-accepts : (m n : Machine) → Lawful m → Lawful n → Both-accepts m n

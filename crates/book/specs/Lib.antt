@@ -11,3 +11,4 @@ pub mod LevelShape
 pub mod Path
 pub mod Opposite
 pub mod Both
+pub mod KindCases

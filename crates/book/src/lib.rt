@@ -3,6 +3,7 @@ pub mod answer;
 pub mod both;
 pub mod event;
 pub mod fault;
+pub mod kind_cases;
 pub mod level;
 pub mod limits;
 pub mod opposite;
