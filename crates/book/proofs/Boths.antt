@@ -33,14 +33,19 @@ record Stands (v w : ℕ) (s : Stand) (p : Stand × Stand) : Type 0 where
 below : (v x : ℕ) → 0 < v → x ≤ v - 1 → x < v
 below v x some h = omega arith
 
+width-is : (m n : Machine) → Product-fits m n → both m n .width ≡ m .width * n .width
+width-is m n fits = ap (λ (b : Bool). cond b (m .width * n .width) 0) (le-leb (m .width * n .width) most-states (fits .2))
+
+pub both-some : (m n : Machine) → Product-fits m n → 0 < both m n .width
+both-some m n fits =
+    let some : 0 * n .width + 0 < m .width * n .width = digits-lt (fits .0) (fits .1) in
+    omega (arith, width-is m n fits)
+
 -- The parts, whose product of widths is above 0 and within the limit.
 module _ (m n : Machine) (p : Lawful m) (q : Lawful n) (fits : Product-fits m n) where
-  width-is : both m n .width ≡ m .width * n .width
-  width-is = ap (λ (b : Bool). cond b (m .width * n .width) 0) (le-leb (m .width * n .width) most-states (fits .2))
-
   joined-below : (a b : ℕ) → a < m .width → b < n .width → ltb (joined (n .width) a b) (both m n .width) ≡ true
   joined-below a b ha hb =
-      ap (λ (x : ℕ). ltb (joined (n .width) a b) x) width-is ∙ lt-ltb (joined (n .width) a b) (m .width * n .width) (digits-lt ha hb)
+      ap (λ (x : ℕ). ltb (joined (n .width) a b) x) (width-is m n fits) ∙ lt-ltb (joined (n .width) a b) (m .width * n .width) (digits-lt ha hb)
 
   -- Answers part by part ------------------------------------------------------------------------------------------
 
@@ -106,16 +111,13 @@ module _ (m n : Machine) (p : Lawful m) (q : Lawful n) (fits : Product-fits m n)
     begins : Stands (m .width) (n .width) (stand (both m n .start) [] 0) (stand (m .start) [] 0, stand (n .start) [] 0)
     begins =
         record {
-          state = ap (λ (b : Bool). cond b (joined (n .width) (m .start) (n .start)) 0) (some (both m n .width) width-is);
+          state = ap (λ (b : Bool). cond b (joined (n .width) (m .start) (n .start)) 0) (lt-ltb 0 (both m n .width) (both-some m n fits));
           left = below (m .width) (m .start) (fits .0) (p .starts);
           right = below (n .width) (n .start) (fits .1) (q .starts);
           aside = none;
           left-items = refl;
           right-items = refl;
         }
-      where
-        some : (x : ℕ) → x ≡ m .width * n .width → ltb 0 x ≡ true
-        some x e = lt-ltb 0 x (let z : 0 * n .width + 0 < m .width * n .width = digits-lt (fits .0) (fits .1) in omega arith)
 
     -- the run of the two accepts just if the runs of both parts do
     run-joined : (c : List Event) → both m n .accepts (run (both m n) f c .state) ≡ (m .accepts (run m g c .state) && n .accepts (run n h c .state))
@@ -125,12 +127,6 @@ module _ (m n : Machine) (p : Lawful m) (q : Lawful n) (fits : Product-fits m n)
         r = subst (Stands (m .width) (n .width) (run (both m n) f c)) (follow-pair (step m g) (step n h) c (stand (m .start) [] 0) (stand (n .start) [] 0))
             (follow-related (Stands (m .width) (n .width)) (step (both m n) f) (λ o e. (step m g (o .0) e, step n h (o .1) e)) keep c
             (stand (both m n .start) [] 0) (stand (m .start) [] 0, stand (n .start) [] 0) begins)
-
-pub both-some : (m n : Machine) → Product-fits m n → 0 < both m n .width
-both-some m n fits =
-    let z : 0 * n .width + 0 < m .width * n .width = digits-lt (fits .0) (fits .1) in
-    let e : both m n .width ≡ m .width * n .width = ap (λ (b : Bool). cond b (m .width * n .width) 0) (le-leb (m .width * n .width) most-states (fits .2)) in
-    omega arith
 
 -- Laws ------------------------------------------------------------------------------------------------------------
 

@@ -8,6 +8,7 @@ use crate::selecting_book::SelectingBook;
 use crate::shape_book::ShapeBook;
 
 // The state of the two is left * (width of the right) + right.
+#[derive(Drop)]
 pub struct Both<L: ShapeBook, R: ShapeBook> {
     left: L,
     right: R,

@@ -4,6 +4,7 @@ ghost use Rattle.book.specs.Opposite.{opposite, opposite-lawful, Opposite-acce
 use crate::selecting_book::SelectingBook;
 use crate::shape_book::ShapeBook;
 
+#[derive(Drop)]
 pub struct Opposite<B: ShapeBook> {
     book: B,
 }

@@ -23,13 +23,14 @@ either-selects : (m : Machine) (k : Marks) → Lawful m → LawfulMarks m k → 
     → (c : List Event) (i : ℕ) → 1 ≤ i → i ≤ opened c → selected (either-way m k) i c ≡ true
 either-selects m k law marks some square c i low high =
     not-both (selected (selecting (opposite m) k) i c) (selected (selecting m k) i c) _
-      (opposite-selects m law some k marks c i low high)
-      (opposite-selects (both (opposite m) m) lawful (both-some (opposite m) m fits) (both-marks (opposite m) m k k)
-          (both-marks-lawful (opposite m) m k k (opposite-marks-lawful m k marks) marks) c i low high
-        ∙ ap not (both-selects (opposite m) m (opposite-lawful m law) law fits k k (opposite-marks-lawful m k marks) marks c i))
+    (opposite-selects m law some k marks c i low high)
+    (opposite-selects (both (opposite m) m) lawful (both-some (opposite m) m fits) (both-marks (opposite m) m k k)
+    (both-marks-lawful (opposite m) m k k (opposite-marks-lawful m k marks) marks) c i low high
+    ∙ ap not (both-selects (opposite m) m (opposite-lawful m law) law fits k k (opposite-marks-lawful m k marks) marks c i))
   where
     fits : (0 < m .width) × (0 < m .width) × (m .width * m .width ≤ most-states)
     fits = (some, some, square)
+
     lawful : Lawful (both (opposite m) m)
     lawful = both-lawful (opposite m) m (opposite-lawful m law) law
 
