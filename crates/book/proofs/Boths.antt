@@ -7,13 +7,13 @@ use native.Mathlib.Nat.{zero-mul}
 use native.Mathlib.Omega.{arith}
 use lib.Arith.{digits-lt, digits-div, digits-mod}
 use lib.Dec.{ltb, leb, eqb}
-use Rattle.std.proofs.shelf.Tests.{lt-ltb, le-leb, cond-both}
+use Rattle.std.proofs.shelf.Tests.{lt-ltb, le-leb}
 use Rattle.book.specs.Limits.{most-states}
 use Rattle.book.specs.declared.event.Event.{Event}
 use Rattle.book.specs.declared.event.Event.the-variants.{Open, Close, End}
-use Rattle.book.specs.Catalogue.{follow, opened}
-use Rattle.book.specs.Machines.{Machine, Marks, Lawful, LawfulMarks, selecting, Entering, plainly, marking, Stand, stand, last, others, step, run}
-use Rattle.book.specs.Both.{both-width, joined, by-parts, both, both-marks, Product-fits, Both-accepts, Both-selects}
+use Rattle.book.specs.Catalogue.{opened}
+use Rattle.book.specs.Machines.{Machine, Lawful, selecting, Entering, plainly, marking, Stand, stand, last, others, step, run}
+use Rattle.book.specs.Both.{joined, by-parts, both, both-marks, Product-fits, Both-accepts, Both-selects}
 use Rattle.book.proofs.Simulations.{follow-related, follow-pair, Enters, plainly-enters, marking-enters}
 
 -- States set aside, part by part, each within its width.

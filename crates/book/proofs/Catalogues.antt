@@ -13,8 +13,8 @@ stays-broken : (c : List Event) → follow after broken c ≡ broken
 stays-broken [] = refl
 stays-broken (e ∷ c) = stays-broken c
 
-pub broken-not-over : (c : List Event) → follow after broken c ≡ over → ⊥
-broken-not-over c h = apart (sym h ∙ stays-broken c)
+pub not-from-broken : (c : List Event) → follow after broken c ≡ over → ⊥
+not-from-broken c h = apart (sym h ∙ stays-broken c)
   where
     apart : over ≡ broken → ⊥
     apart p = let z : _≡_ {A = ℕ} 0 1 = cc in omega arith
@@ -23,14 +23,14 @@ pub within-not-over : (ts : List ℕ) → within ts ≡ over → ⊥
 within-not-over ts p = let z : _≡_ {A = ℕ} 0 1 = cc in omega arith
 
 -- after the end nothing may come
-pub over-then-none : (c : List Event) → follow after over c ≡ over → c ≡ []
-over-then-none [] h = refl
-over-then-none (e ∷ c) h = absurd (broken-not-over c h)
+pub over-only-empty : (c : List Event) → follow after over c ≡ over → c ≡ []
+over-only-empty [] h = refl
+over-only-empty (e ∷ c) h = absurd (not-from-broken c h)
 
 -- a test that was passed
 pub passed : (b : Bool) (n : Nest) (c : List Event) → follow after (cond b n broken) c ≡ over → (b ≡ true) × (follow after n c ≡ over)
 passed true n c h = (refl, h)
-passed false n c h = absurd (broken-not-over c h)
+passed false n c h = absurd (not-from-broken c h)
 
 -- items are only added
 pub count-grows : (c : List Event) (n : ℕ) → n ≤ follow count n c

@@ -1,8 +1,8 @@
 -- The law of the level shape.
-use mathlib.Core.Path.{_≡_, refl, sym, ap, subst, _∙_}
-use mathlib.Core.Bool.{Bool, true, false, cond, _&&_}
+use mathlib.Core.Path.{_≡_, refl, sym, subst, _∙_}
+use mathlib.Core.Bool.{Bool, true, false, cond}
 use mathlib.Core.List.{List, [], _∷_, reverse}
-use mathlib.Core.Logic.{_⊎_, inl, inr}
+use mathlib.Core.Logic.{inl, inr}
 use Prim.Native.Nat.{ℕ, suc, _+_, _≤_, _<_}
 use native.Mathlib.Numerals.{add-one}
 use native.Mathlib.Omega.{arith}
@@ -12,15 +12,15 @@ use Rattle.std.specs.Orderings.{Decides}
 use Rattle.std.specs.shelf.Lists.{All}
 use Rattle.std.proofs.shelf.Lists.{length-reverse}
 use Rattle.std.proofs.shelf.Ways.{decides-like}
-use Rattle.std.proofs.shelf.Tests.{cases-lt, cases-bool, ltb-true, lt-ltb, le-ltb, le-leb, lt-leb, eqb-true, eqb-false, ne-eqb, eq-eqb, both-ways, cond-both}
+use Rattle.std.proofs.shelf.Tests.{cases-lt, ltb-true, lt-ltb, le-ltb, le-leb, lt-leb, eqb-true, eqb-false, ne-eqb, eq-eqb, both-ways, cond-both}
 use Rattle.book.specs.Limits.{tags}
 use Rattle.book.specs.declared.event.Event.{Event}
 use Rattle.book.specs.declared.event.Event.the-variants.{Open, Close, End}
 use Rattle.book.specs.Catalogue.{follow, within, over, after, count}
-use Rattle.book.specs.Machines.{Machine, plainly, Stand, stand, step}
+use Rattle.book.specs.Machines.{plainly, stand, step}
 use Rattle.book.specs.Places.{tags-to-from}
 use Rattle.book.specs.LevelShape.{level-machine, Level-accepts}
-use Rattle.book.proofs.Catalogues.{broken-not-over, within-not-over, over-then-none, passed, count-grows}
+use Rattle.book.proofs.Catalogues.{not-from-broken, within-not-over, over-only-empty, passed, count-grows}
 use Rattle.book.proofs.Simulations.{stays}
 
 module _ (d : ℕ) where
@@ -103,16 +103,16 @@ module _ (d : ℕ) where
           c (stand q (length ts ∷ depths ts) (suc n)) (t ∷ ts) begins (omega arith) (omega arith, depths-below ts low) (small, all) rest in
           let refused : leb (ends q (length ts ∷ depths ts) (suc n) c) d ≡ false = lt-leb (ends q (length ts ∷ depths ts) (suc n) c) d (omega arith) in
           (λ e. absurd (both-ways _ refused e), λ s. absurd (shallow-not t ts n c (omega arith) s))
-  level-from (Close t ∷ c) [] n low all h = absurd (broken-not-over c h)
+  level-from (Close t ∷ c) [] n low all h = absurd (not-from-broken c h)
   level-from (Close t ∷ c) (u ∷ ts) n low all h =
       let p = passed (eqb u t) (within ts) c h in
       let small : t < tags = subst (λ (x : ℕ). x < tags) (eqb-true u t (p .0)) (all .0) in
       subst (λ (q : ℕ). Decides (leb (ends q (depths ts) n c) d) (Shallow ts n c)) (sym (back-outer (length ts) t low small))
       (level-from c ts n (omega arith) (all .1) (p .1))
   level-from (End ∷ c) [] n low all h =
-      subst (λ (e : List Event). Decides (leb (ends 0 [] n e) d) (Shallow [] n (End ∷ e))) (sym (over-then-none c h))
+      subst (λ (e : List Event). Decides (leb (ends 0 [] n e) d) (Shallow [] n (End ∷ e))) (sym (over-only-empty c h))
       (λ _ i above most. absurd (omega arith), λ _. le-leb 0 d (omega arith))
-  level-from (End ∷ c) (u ∷ ts) n low all h = absurd (broken-not-over c h)
+  level-from (End ∷ c) (u ∷ ts) n low all h = absurd (not-from-broken c h)
 
   pub level-accepts : Level-accepts d
   level-accepts c h =

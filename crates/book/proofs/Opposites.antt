@@ -2,13 +2,13 @@
 use mathlib.Core.Path.{_≡_, refl, ap, _∙_}
 use mathlib.Core.Bool.{Bool, true, false, not, _&&_}
 use mathlib.Core.List.{List}
-use Prim.Native.Nat.{ℕ, _-_, _≤_, _<_}
+use Prim.Native.Nat.{ℕ, _<_}
 use native.Mathlib.Omega.{arith}
-use lib.Dec.{ltb, leb}
+use lib.Dec.{leb}
 use Rattle.std.proofs.shelf.Tests.{lt-ltb, le-leb}
 use Rattle.book.specs.declared.event.Event.{Event}
 use Rattle.book.specs.Catalogue.{opened}
-use Rattle.book.specs.Machines.{Machine, Marks, Lawful, LawfulMarks, selecting, Entering, plainly, marking, Stand, run}
+use Rattle.book.specs.Machines.{Machine, Lawful, selecting, Entering, plainly, marking, Stand, run}
 use Rattle.book.specs.Opposite.{opposite, Opposite-accepts, Opposite-selects}
 use Rattle.book.proofs.Simulations.{run-same, Enters, plainly-enters, marking-enters, run-within}
 

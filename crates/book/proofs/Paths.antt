@@ -1,5 +1,5 @@
 -- The law of the path book.
-use mathlib.Core.Path.{_≡_, refl, sym, ap, ap₂, subst, _∙_}
+use mathlib.Core.Path.{_≡_, refl, sym, ap, subst, _∙_}
 use mathlib.Core.Bool.{Bool, true, false, cond, _&&_, _||_}
 use mathlib.Core.List.{List, [], _∷_, reverse, reverseAux}
 use mathlib.Core.Logic.{_⊎_, inl, inr}
@@ -12,10 +12,10 @@ use lib.Pow.{pow-pos}
 use lib.Seq.{drop-cons}
 use Rattle.std.specs.Orderings.{Decides}
 use Rattle.std.specs.shelf.Lists.{All}
-use Rattle.std.proofs.shelf.Bits.{pow-add, pow-below, shl-shr, mod-mul-add, div-mul-add}
+use Rattle.std.proofs.shelf.Bits.{pow-add, pow-below}
 use Rattle.std.proofs.shelf.Lists.{drop-all}
 use Rattle.std.proofs.shelf.Ways.{decides-at}
-use Rattle.std.proofs.shelf.Tests.{cases-lt, cases-eq, cases-bool, ltb-true, lt-ltb, le-ltb, le-leb, eqb-true, eqb-false, ne-eqb, eq-eqb, both-ways, and-parts, and-from, or-cases, or-left, or-right}
+use Rattle.std.proofs.shelf.Tests.{cases-lt, cases-eq, ltb-true, lt-ltb, le-ltb, le-leb, eqb-true, ne-eqb, eq-eqb, both-ways, and-parts, and-from, or-cases, or-left, or-right}
 use Rattle.book.specs.Limits.{tags}
 use Rattle.book.specs.declared.event.Event.{Event}
 use Rattle.book.specs.declared.event.Event.the-variants.{Open, Close, End}
@@ -23,10 +23,10 @@ use Rattle.book.specs.declared.path.Axis.{Axis}
 use Rattle.book.specs.declared.path.Axis.the-variants.{Child, Descendant}
 use Rattle.book.specs.declared.path.PathStep.{PathStep}
 use Rattle.book.specs.Catalogue.{follow, within, over, after, count, opened}
-use Rattle.book.specs.Machines.{Machine, selecting, marking, Stand, stand, step}
+use Rattle.book.specs.Machines.{selecting, marking, stand, step}
 use Rattle.book.specs.Places.{tags-to-from}
 use Rattle.book.specs.Path.{descends, fits, step-at, member, set-of, set-of-below, keeps, adds, enter-set, matches, hit, miss, path-machine, path-marks, Fits, none-left, next-fits, passed-over, Path-selects}
-use Rattle.book.proofs.Catalogues.{broken-not-over, within-not-over, over-then-none, passed, count-grows}
+use Rattle.book.proofs.Catalogues.{not-from-broken, within-not-over, over-only-empty, passed}
 use Rattle.book.proofs.Simulations.{stays}
 
 -- Members of a set ------------------------------------------------------------------------------------------------
@@ -291,7 +291,7 @@ module _ (steps : List PathStep) (some : 1 ≤ length steps) where
             subst Goal (sym (ne-eqb (suc n) i e))
             (subst (λ (q : ℕ). Decides (eqb (ends q (inside ts ∷ asides ts) (suc n) c) (hit (length steps))) (Fits steps (tags-to-from (t ∷ ts) (suc n) i c)))
             (sym (enter-is (inside ts) t (inside-below ts) ht)) more)
-    path-from (Close t ∷ c) [] n above most small h = absurd (broken-not-over c h)
+    path-from (Close t ∷ c) [] n above most small h = absurd (not-from-broken c h)
     path-from (Close t ∷ c) (u ∷ ts) n above most small h =
         let p = passed (eqb u t) (within ts) c h in
         let ht : t < tags = subst (λ (x : ℕ). x < tags) (eqb-true u t (p .0)) (small .0) in
@@ -299,9 +299,9 @@ module _ (steps : List PathStep) (some : 1 ≤ length steps) where
         (sym (back-outer (inside ts) (inside (u ∷ ts)) t (inside-below ts) (inside-below (u ∷ ts)) ht))
         (path-from c ts n above most (small .1) (p .1))
     path-from (End ∷ c) [] n above most small h =
-        let none : i ≤ follow count n [] = subst (λ (e : List Event). i ≤ follow count n e) (over-then-none c h) most in
+        let none : i ≤ follow count n [] = subst (λ (e : List Event). i ≤ follow count n e) (over-only-empty c h) most in
         absurd (omega arith)
-    path-from (End ∷ c) (u ∷ ts) n above most small h = absurd (broken-not-over c h)
+    path-from (End ∷ c) (u ∷ ts) n above most small h = absurd (not-from-broken c h)
 
   pub path-selects : Path-selects steps
   path-selects c h i low high =

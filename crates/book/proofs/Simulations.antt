@@ -1,19 +1,17 @@
 -- Runs side by side: what every event keeps, a run keeps.
 use mathlib.Core.Path.{_≡_, refl, sym, ap, subst, _∙_}
-use mathlib.Core.Bool.{Bool, true, false, cond, not, _&&_}
+use mathlib.Core.Bool.{Bool, true, false, cond}
 use mathlib.Core.List.{List, [], _∷_}
-use mathlib.Core.Logic.{_⊎_, inl, inr}
 use Prim.Native.Nat.{ℕ, suc, _-_, _≤_, _<_}
 use native.Mathlib.Omega.{arith}
-use lib.Dec.{ltb, leb, eqb}
-use lib.ListN.{length}
+use lib.Dec.{ltb, eqb}
 use Rattle.std.specs.shelf.Lists.{All}
 use Rattle.std.proofs.shelf.Tests.{ltb-true, eqb-true, cond-both}
 use Rattle.book.specs.declared.event.Event.{Event}
 use Rattle.book.specs.declared.event.Event.the-variants.{Open, Close, End}
 use Rattle.book.specs.Limits.{tags}
-use Rattle.book.specs.Catalogue.{follow, Nest, within, over, broken, after, count, opened}
-use Rattle.book.specs.Machines.{Machine, Marks, Lawful, LawfulMarks, Selecting, selecting, Entering, plainly, marking, Stand, stand, last, others, step, run}
+use Rattle.book.specs.Catalogue.{follow, Nest, within, over, broken, after}
+use Rattle.book.specs.Machines.{Machine, Marks, Lawful, LawfulMarks, selecting, Entering, plainly, marking, Stand, stand, last, others, step, run}
 
 -- Two runs --------------------------------------------------------------------------------------------------------
 

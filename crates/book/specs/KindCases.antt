@@ -1,12 +1,11 @@
 -- Worked cases of the kinds of book and their layers.
 use mathlib.Core.Path.{_≡_}
-use mathlib.Core.Bool.{Bool, true}
+use mathlib.Core.Bool.{true}
 use mathlib.Core.List.{List, [], _∷_, map}
 use Prim.Native.Nat.{ℕ, _*_, _<_, _≤_}
 use Rattle.book.specs.Limits.{most-states}
 use Rattle.book.specs.declared.event.Event.{Event}
 use Rattle.book.specs.declared.path.PathStep.{PathStep}
-use Rattle.book.specs.declared.path.Step.{Step}
 use Rattle.book.specs.Catalogue.{opened}
 use Rattle.book.specs.Machines.{Machine, Marks, Lawful, LawfulMarks, Selecting, selecting, selected}
 use Rattle.book.specs.Path.{step-of, path-machine, path-marks}

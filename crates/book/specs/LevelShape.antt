@@ -6,10 +6,10 @@ use mathlib.Core.Logic.{_⊎_, ⊎-elim}
 use Prim.Native.Nat.{ℕ, _+_, _-_, _<_, _≤_}
 use native.Mathlib.Omega.{arith}
 use borrow.Author.Tests.{ltb-true, lt-leb}
-use lib.Dec.{eqb, leb, ltb, lit≤}
+use lib.Dec.{eqb, leb, ltb}
 use Rattle.std.specs.Orderings.{Decides}
 use Rattle.std.proofs.shelf.Tests.{and-parts}
-use Rattle.book.specs.Limits.{tags, most-states, most-depth}
+use Rattle.book.specs.Limits.{tags, most-depth}
 use Rattle.book.specs.declared.event.Event.{Event}
 use Rattle.book.specs.Catalogue.{Catalogue, opened}
 use Rattle.book.specs.OutOfRange.{answer-within, answer-none}

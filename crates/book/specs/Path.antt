@@ -1,5 +1,5 @@
 -- The path book: its steps, its meaning, its rules of range, and its law.
-use mathlib.Core.Path.{_≡_, refl}
+use mathlib.Core.Path.{_≡_}
 use mathlib.Core.Bool.{Bool, true, false, cond, _&&_, _||_}
 use mathlib.Core.List.{List, [], _∷_}
 use mathlib.Core.Logic.{_⊎_, ⊎-elim}
@@ -12,7 +12,7 @@ use lib.ListN.{length, getD, take, length-take}
 use lib.Pow.{pow-mono, pow-pos}
 use Rattle.std.specs.Orderings.{Decides}
 use Rattle.std.proofs.shelf.Tests.{and-parts}
-use Rattle.book.specs.Limits.{tags, most-states, most-steps}
+use Rattle.book.specs.Limits.{tags, most-steps}
 use Rattle.book.specs.declared.event.Event.{Event}
 use Rattle.book.specs.declared.path.Axis.{Axis}
 use Rattle.book.specs.declared.path.Axis.the-variants.{Child, Descendant}

@@ -7,7 +7,7 @@ ghost use lib.ListN.{length, take};
 ghost use Rattle.std.specs.Results.{Cases};
 ghost use Rattle.book.specs.Limits.{most-steps};
 ghost use Rattle.book.specs.declared.fault.BookFault.the-variants.{PathSteps};
-ghost use Rattle.book.specs.Path.{step-right, steps-right, path-right, step-of, descends, fits, step-at, member, keeps, adds, enter-set, matches, path-machine, path-marks, take-few, path-lawful, path-marks-lawful, Path-selects};
+ghost use Rattle.book.specs.Path.{step-right, steps-right, path-right, step-of, descends, fits, step-at, member, keeps, adds, enter-set, matches, path-machine, path-marks, take-few, path-lawful, Path-selects};
 use crate::fault::BookFault;
 use crate::limits::MOST_STEPS;
 use crate::limits::TAGS;
