@@ -43,8 +43,9 @@ fn product(left: u16, right: u16) -> u16
     requires { ⌜ (left ≤ most-states) × (right ≤ most-states) ⌝ }
     ensures { λ r. ⌜ r ≡ both-width left right ⌝ }
 {
-    if left * right <= MOST_STATES {
-        left * right
+    let all = left as u32 * right as u32;
+    if all <= MOST_STATES as u32 {
+        all as u16
     } else {
         0
     }
