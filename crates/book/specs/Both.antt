@@ -46,7 +46,7 @@ both-marks m n x y = by-parts (m .width) (n .width) x y
 
 -- Rules of range --------------------------------------------------------------------------------------------------
 
-both-narrow : (b : Bool) (p : ℕ) → leb p most-states ≡ b → cond b p 0 ≤ most-states
+pub both-narrow : (b : Bool) (p : ℕ) → leb p most-states ≡ b → cond b p 0 ≤ most-states
 both-narrow true p e = leb-true p most-states e
 both-narrow false p e = lit≤ tt
 
@@ -57,7 +57,7 @@ right-some : (v w : ℕ) → 0 < v * w → 0 < w
 right-some v w h = ⊎-elim (λ p. p) (λ p. let e : w ≡ 0 = omega arith in absurd (let z = rw (e, mul-zero) at h in omega arith)) (cases-lt 0 w)
 
 -- a state whose parts are within their widths is within the product, if there is one
-joined-within : (b : Bool) (v w x y s : ℕ) → x ≤ v - 1 → y ≤ w - 1 → s < cond b (v * w) 0 → joined w x y ≤ cond b (v * w) 0 - 1
+pub joined-within : (b : Bool) (v w x y s : ℕ) → x ≤ v - 1 → y ≤ w - 1 → s < cond b (v * w) 0 → joined w x y ≤ cond b (v * w) 0 - 1
 joined-within true v w x y s hx hy h =
     let some : 0 < v * w = omega arith in
     let a = left-some v w some in

@@ -1,8 +1,8 @@
 // Two books as one: it accepts where both do.
 ghost use mathlib.Core.Path.{_≡_};
-ghost use Prim.Native.Nat.{_≤_};
+ghost use Prim.Native.Nat.{_-_, _<_, _≤_};
 ghost use Rattle.book.specs.Limits.{most-states};
-ghost use Rattle.book.specs.Both.{both-width, both, both-marks, both-lawful, Both-accepts, Both-selects};
+ghost use Rattle.book.specs.Both.{both-width, joined, both, both-marks, both-lawful, Both-accepts, Both-selects};
 use crate::limits::MOST_STATES;
 use crate::selecting_book::SelectingBook;
 use crate::shape_book::ShapeBook;
@@ -51,6 +51,16 @@ fn product(left: u16, right: u16) -> u16
     }
 }
 
+// The state whose parts are `left` and `right`.
+fn join(left: u16, right: u16, left_width: u16, right_width: u16) -> u16
+    requires { ⌜ left ≤ «left_width» - 1 ⌝ }
+    requires { ⌜ right ≤ «right_width» - 1 ⌝ }
+    requires { ⌜ 0 < both-width «left_width» «right_width» ⌝ }
+    ensures { λ r. ⌜ r ≡ joined «right_width» left right ⌝ }
+{
+    left * right_width + right
+}
+
 pub impl<L: ShapeBook, R: ShapeBook> ShapeBook for Both<L, R> as BothShape {
     ghost machine = { λ o. both (L·ShapeBook .machine (o .left)) (R·ShapeBook .machine (o .right)) };
 
@@ -61,29 +71,38 @@ pub impl<L: ShapeBook, R: ShapeBook> ShapeBook for Both<L, R> as BothShape {
     }
 
     fn start(&self) -> u16 {
+        let left = self.left.width();
         let right = self.right.width();
-        if product(self.left.width(), right) > 0 {
-            self.left.start() * right + self.right.start()
+        if product(left, right) > 0 {
+            join(self.left.start(), self.right.start(), left, right)
         } else {
             0
         }
     }
 
     fn enter(&self, state: u16, tag: u8) -> u16 {
+        let left = self.left.width();
         let right = self.right.width();
-        if state < product(self.left.width(), right) {
-            self.left.enter(state / right, tag) * right + self.right.enter(state % right, tag)
+        if state < product(left, right) {
+            join(
+                self.left.enter(state / right, tag),
+                self.right.enter(state % right, tag),
+                left,
+                right,
+            )
         } else {
             0
         }
     }
 
     fn back(&self, outer: u16, inner: u16, tag: u8) -> u16 {
+        let left = self.left.width();
         let right = self.right.width();
-        let all = product(self.left.width(), right);
+        let all = product(left, right);
         if outer < all && inner < all {
-            self.left.back(outer / right, inner / right, tag) * right
-                + self.right.back(outer % right, inner % right, tag)
+            let first = self.left.back(outer / right, inner / right, tag);
+            let second = self.right.back(outer % right, inner % right, tag);
+            join(first, second, left, right)
         } else {
             0
         }
@@ -110,9 +129,15 @@ pub impl<L: SelectingBook, R: SelectingBook> SelectingBook for Both<L, R> as Bot
     fn mark(&self, state: u16, tag: u8) -> u16 {
         self.left.marked();
         self.right.marked();
+        let left = self.left.width();
         let right = self.right.width();
-        if state < product(self.left.width(), right) {
-            self.left.mark(state / right, tag) * right + self.right.mark(state % right, tag)
+        if state < product(left, right) {
+            join(
+                self.left.mark(state / right, tag),
+                self.right.mark(state % right, tag),
+                left,
+                right,
+            )
         } else {
             0
         }
