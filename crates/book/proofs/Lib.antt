@@ -22,3 +22,9 @@ pub mod Watch
 pub mod Acceptance
 pub mod Totals
 pub mod Room
+pub mod Catalogues
+pub mod Simulations
+pub mod Opposites
+pub mod Boths
+pub mod LevelShapes
+pub mod Paths
