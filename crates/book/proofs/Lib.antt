@@ -1,0 +1,10 @@
+pub mod Nesting
+pub mod Steps
+pub mod Rows
+pub mod Selections
+pub mod Questions
+pub mod Levels
+pub mod Ranges
+pub mod Tables
+pub mod Fitting
+pub mod Earliest

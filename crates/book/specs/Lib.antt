@@ -5,3 +5,6 @@ pub mod Orders
 pub mod Rows
 pub mod Refusals
 pub mod Faults
+pub mod Levels
+pub mod Tables
+pub mod Earliest

@@ -4,3 +4,4 @@ pub mod event;
 pub mod fault;
 pub mod selecting_book;
 pub mod shape_book;
+pub mod theory;
