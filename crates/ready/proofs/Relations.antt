@@ -12,14 +12,20 @@ use Rattle.book.specs.Machines.{Machine, Lawful}
 use Rattle.book.specs.Rows.{Forest, none, item, tagged, through, Reach}
 use Rattle.ready.specs.Pairs.{Rel, joined, Covering}
 use Rattle.ready.specs.Rounds.{Rows-lead, Grown, Found, Answers, Fresh-answers, Answered}
-use Rattle.ready.proofs.Forests.{tagged-parts, reach-self, reach-on, reach-item, enter-below, back-below, through-below}
+use Rattle.book.specs.Tables.{Fits}
+use Rattle.book.proofs.Rows.{reach-here, reach-then, reach-item}
+use Rattle.book.proofs.Ranges.{enter-below, back-below, through-below}
+
+-- a book that has a state has a width above 0
+pub positive : (m : Machine) (q : ℕ) → q < m .width → 0 < m .width
+positive m q h = omega arith
 
 -- At first -----------------------------------------------------------------------------------------------------------
 
 pub found-first : (m : Machine) (r : Rel) → ((q p : ℕ) → r q p ≡ (ltb q (m .width) && eqb p q)) → Found m r
 found-first m r e =
     record {
-      sound = λ q p a. (ltb-true q (m .width) (parts q p a .0), subst (λ (x : ℕ). Reach m q x) (sym (same q p a)) (reach-self m q));
+      sound = λ q p a. (ltb-true q (m .width) (parts q p a .0), subst (λ (x : ℕ). Reach m q x) (sym (same q p a)) (reach-here m q));
       reflexive = λ q h. e q q ∙ and-from (ltb q (m .width)) (eqb q q) (lt-ltb q (m .width) h) (eq-eqb q q refl);
       transitive = λ q s p a b. subst (λ (x : ℕ). r q x ≡ true) (sym (same s p b)) a;
     }
@@ -65,7 +71,7 @@ module _ (m : Machine) (r s : Rel) (from to : ℕ) (e : (q p : ℕ) → s q p �
         reached q p (inl a) = found .sound q p a
         reached q p (inr a) =
             let first = found .sound q from (a .0) in
-            (first .0, reach-on m q from p (first .1) (reach-on m from to p lead (found .sound to p (a .1) .1)))
+            (first .0, reach-then m q from p (first .1) (reach-then m from to p lead (found .sound to p (a .1) .1)))
 
 -- One question -------------------------------------------------------------------------------------------------------
 
@@ -84,11 +90,11 @@ module _ (m : Machine) (law : Lawful m) (r s : Rel) (found : Found m r) (q p t :
     e q (m .back q p t) ∙ has,
   )
 
-  asked-new : ((x y : ℕ) → s x y ≡ joined r (m .width) q (m .back q p t) x y)
+  pub asked-new : ((x y : ℕ) → s x y ≡ joined r (m .width) q (m .back q p t) x y)
       → Found m s × Grown r s × (s q (m .back q p t) ≡ true)
   asked-new e =
-      let to : m .back q p t < m .width = back-below m law q q p t hq in (
-        joined-found m r s q (m .back q p t) e found hq to (reach-item m q t p ht lead),
+      let to : m .back q p t < m .width = back-below m law (positive m q hq) q p t in (
+        joined-found m r s q (m .back q p t) e found hq to (reach-item m q p t (lt-ltb t tags ht) lead),
         joined-grown m r s q (m .back q p t) e,
         joined-has m r s q (m .back q p t) e found hq to,
       )
@@ -102,18 +108,26 @@ module _ (m : Machine) (law : Lawful m) (r s : Rel) (found : Found m r) (q p t :
 
 -- Every question -----------------------------------------------------------------------------------------------------
 
+-- the parts of a row whose tags are right
+tagged-parts : (t : ℕ) (inside next : Forest) → tagged (item t inside next) ≡ true → (t < tags) × (tagged inside ≡ true) × (tagged next ≡ true)
+tagged-parts t inside next h =
+    let a = and-parts (ltb t tags && tagged inside) (tagged next) h in
+    let b = and-parts (ltb t tags) (tagged inside) (a .0) in
+    (ltb-true t tags (b .0), b .1, a .1)
+
 -- what is found and answers all its own questions has each pair that is wanted
 module _ (m : Machine) (law : Lawful m) (r : Rel) (found : Found m r) (all : Answered m r r) where
   complete : (f : Forest) (q : ℕ) → q < m .width → tagged f ≡ true → r q (through m f q) ≡ true
   complete none q h k = found .reflexive q h
   complete (item t inside next) q h k =
       let parts = tagged-parts t inside next k in
-      let first : m .enter q t < m .width = enter-below m law q q t h in
+      let some = positive m q h in
+      let first : m .enter q t < m .width = enter-below m law some q t in
       let p : ℕ = through m inside (m .enter q t) in
-      let below : p < m .width = through-below m law inside (m .enter q t) first in
+      let below : p < m .width = through-below m law some inside (m .enter q t) first in
       found .transitive q (m .back q p t) (through m next (m .back q p t))
       (all q t h (parts .0) p below (complete inside (m .enter q t) first (parts .1)))
-      (complete next (m .back q p t) (back-below m law q q p t h) (parts .2))
+      (complete next (m .back q p t) (back-below m law some q p t) (parts .2))
 
   pub rows-lead : Rows-lead m r
   rows-lead q p = (found .sound q p, λ a. subst (λ (x : ℕ). r q x ≡ true) (a .1 .2) (complete (a .1 .0) q (a .0) (a .1 .1)))
@@ -128,4 +142,8 @@ answered-more m r s asked fresh more old new q t hq ht p hp h =
 
 -- where the fresh pairs are all there are
 pub answered-all : (m : Machine) → Lawful m → (s fresh : Rel) → Covering (m .width) fresh s → Answered m s fresh → Answered m s s
-answered-all m law s fresh cover h q t hq ht p hp a = h q t hq ht p hp (cover (m .enter q t) p (enter-below m law q q t hq) a)
+answered-all m law s fresh cover h q t hq ht p hp a = h q t hq ht p hp (cover (m .enter q t) p (enter-below m law (positive m q hq) q t) a)
+
+-- the pairs that are wanted fit the book
+pub fits : (m : Machine) (r : Rel) → Rows-lead m r → Fits m r
+fits m r lead q p hq hp = (λ a. lead q p .0 a .1, λ a. lead q p .1 (hq, a))

@@ -1,3 +1,4 @@
 pub mod Sets
 pub mod Pairs
 pub mod Rounds
+pub mod Dead

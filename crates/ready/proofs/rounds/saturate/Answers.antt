@@ -7,8 +7,8 @@ use Rattle.ready.specs.declared.table.Table.{Table}
 use Rattle.ready.specs.Pairs.{lies}
 use Rattle.ready.specs.Rounds.{Finding, Answered}
 use Rattle.ready.proofs.Counts.{lacks-lt}
-use Rattle.ready.proofs.Forests.{reach-below}
-use Rattle.ready.proofs.Relations.{found-first, answered-more, answered-all, rows-lead}
+use Rattle.book.proofs.Ranges.{reach-below}
+use Rattle.ready.proofs.Relations.{positive, found-first, answered-more, answered-all, rows-lead}
 use Rattle.ready.proofs.rounds.saturate.Needs as need
 
 pub rounds-holds : need.rounds-holds
@@ -52,4 +52,4 @@ rounds-less g c =
     let more = c .if-round .ensures tt .last in
     let reached = post .found .sound (more .0) (more .1) (more .3) in
     lacks-lt (lies (c .rounds .table .rows)) (lies (c .round .last .table .rows)) (post .growing) (m .width) (m .width)
-    (more .0) (more .1) (more .2) (reach-below m law (more .0) (more .1) (more .2) (reached .1)) (more .4) (more .3)
+    (more .0) (more .1) (more .2) (reach-below m law (positive m (more .0) (more .2)) (more .0) (more .1) (more .2) (reached .1)) (more .4) (more .3)
