@@ -7,7 +7,7 @@ ghost use Rattle.ready.specs.Rounds.{Entries};
 use crate::state_set::STATES;
 use book::shape_book::ShapeBook;
 
-pub const TAGS: u8 = 32;
+pub(crate) const TAGS: u8 = 32;
 
 // A state's tags stand beside each other.
 const PER_STATE: usize = TAGS as usize;
@@ -15,12 +15,12 @@ const PER_STATE: usize = TAGS as usize;
 const PLACES: usize = STATES as usize * PER_STATE;
 
 #[derive(Drop)]
-pub struct Entered {
+pub(crate) struct Entered {
     states: [u16; PLACES],
 }
 
 impl Entered {
-    pub fn of<B: ShapeBook>(book: &B) -> Entered
+    pub(crate) fn of<B: ShapeBook>(book: &B) -> Entered
         ensures { λ r. ⌜ Entries (B·ShapeBook .machine (now (book .entry))) (r .states) ⌝ }
     {
         let mut states = [0u16; PLACES];
@@ -31,7 +31,7 @@ impl Entered {
         Entered { states }
     }
 
-    pub fn at(&self, state: u16, tag: u8) -> u16
+    pub(crate) fn at(&self, state: u16, tag: u8) -> u16
         requires { ⌜ state < most-states ⌝ }
         requires { ⌜ tag < tags ⌝ }
         ensures { λ r. ⌜ r ≡ getD (now (self .entry) .states) (state * tags + tag) 0 ⌝ }

@@ -2,8 +2,10 @@
 ghost use mathlib.Core.Bool.{true};
 ghost use mathlib.Core.Logic.{_↔_};
 ghost use mathlib.Core.Path.{_≡_};
-ghost use Prim.Native.Nat.{ℕ};
+ghost use Prim.Native.Nat.{ℕ, _<_};
+ghost use Rattle.book.specs.Tables.{Fits};
 ghost use Rattle.ready.specs.Dead.{Dead};
+ghost use Rattle.ready.specs.Laws.{Decides-acceptance, Decides-items};
 ghost use Rattle.ready.specs.Pairs.{lies};
 ghost use Rattle.ready.specs.Rounds.{Rows-lead};
 ghost use Rattle.ready.specs.Sets.{has};
@@ -23,6 +25,9 @@ pub struct Ready<B> {
 pub fn make_ready<B: ShapeBook>(book: B) -> Ready<B>
     ensures book { λ r. ⌜ r .book ≡ book ⌝ }
     ensures reach { λ r. ⌜ Rows-lead (B·ShapeBook .machine book) (lies (r .reach .rows)) ⌝ }
+    ensures fits { λ r. ⌜ Fits (B·ShapeBook .machine book) (lies (r .reach .rows)) ⌝ }
+    ensures acceptance { λ r. ⌜ (0 < B·ShapeBook .machine book .width → Decides-acceptance (B·ShapeBook .machine book) (lies (r .reach .rows))) ⌝ }
+    ensures items { λ r. ⌜ (0 < B·ShapeBook .machine book .width → Decides-items (B·ShapeBook .machine book) (lies (r .reach .rows))) ⌝ }
 {
     let reach = saturate(&book);
     Ready { book, reach }
@@ -61,9 +66,9 @@ impl<B> Ready<B> {
 impl<B: ShapeBook> Ready<B> {
     // Is it a state of the book from which no row of whole items leads to an accepting state?
     pub fn is_dead(&self, state: u16) -> bool
-        ensures { λ r. ⌜ (Rows-lead (B·ShapeBook .machine (now (self .entry) .book)) (lies (now (self .entry) .reach .rows)) → (r ≡ true) ↔ Dead (B·ShapeBook .machine (now (self .entry) .book)) state) ⌝ }
+        ensures { λ r. ⌜ (Rows-lead (B·ShapeBook .machine (now (self .entry) .book)) (lies (now (self .entry) .reach .rows)) → ((r ≡ true) ↔ Dead (B·ShapeBook .machine (now (self .entry) .book)) state)) ⌝ }
     {
-        state < self.book.width() && !may_accept(&self.book, &self.reach.row(state))
+        state < self.book.width() && !may_accept(self.book(), &self.row(state))
     }
 }
 

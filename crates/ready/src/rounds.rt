@@ -6,6 +6,8 @@ ghost use Prim.Native.Nat.{ℕ, _<_};
 ghost use Rattle.std.specs.Orderings.{When};
 ghost use Rattle.book.specs.Limits.{tags};
 ghost use Rattle.book.specs.Rows.{Reach};
+ghost use Rattle.book.specs.Tables.{Fits};
+ghost use Rattle.ready.specs.Laws.{Decides-acceptance, Decides-items};
 ghost use Rattle.ready.specs.Sets.{has};
 ghost use Rattle.ready.specs.Pairs.{lies, joined, Covering, Uncovered};
 ghost use Rattle.ready.specs.Rounds.{Rows-lead, Entries, Grown, Found, Answers, Fresh-answers, Round};
@@ -115,7 +117,7 @@ fn round<B: ShapeBook>(book: &B, entered: &Entered, table: &mut Table, asked: &m
 }
 
 // All pairs of a state of the book and a state that some row of whole items leads to.
-pub(crate) fn saturate<B: ShapeBook>(book: &B) -> Table
+fn find_pairs<B: ShapeBook>(book: &B) -> Table
     ensures { λ r. ⌜ Rows-lead (B·ShapeBook .machine (now (book .entry))) (lies (r .rows)) ⌝ }
 {
     let entered = Entered::of(book);
@@ -126,4 +128,14 @@ pub(crate) fn saturate<B: ShapeBook>(book: &B) -> Table
             return table;
         }
     }
+}
+
+// The same, with what follows for the book.
+pub(crate) fn saturate<B: ShapeBook>(book: &B) -> Table
+    ensures reach { λ r. ⌜ Rows-lead (B·ShapeBook .machine (now (book .entry))) (lies (r .rows)) ⌝ }
+    ensures fits { λ r. ⌜ Fits (B·ShapeBook .machine (now (book .entry))) (lies (r .rows)) ⌝ }
+    ensures acceptance { λ r. ⌜ (0 < B·ShapeBook .machine (now (book .entry)) .width → Decides-acceptance (B·ShapeBook .machine (now (book .entry))) (lies (r .rows))) ⌝ }
+    ensures items { λ r. ⌜ (0 < B·ShapeBook .machine (now (book .entry)) .width → Decides-items (B·ShapeBook .machine (now (book .entry))) (lies (r .rows))) ⌝ }
+{
+    find_pairs(book)
 }

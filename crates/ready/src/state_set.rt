@@ -23,19 +23,12 @@ pub struct StateSet {
     words: [u64; WORDS],
 }
 
-fn no_states() -> StateSet
-    ensures none { λ r. ⌜ ((q : ℕ) → has (r .words) q ≡ false) ⌝ }
-    ensures same { λ r. ⌜ r ≡ empty-set ⌝ }
-{
-    StateSet { words: [0; WORDS] }
-}
-
 impl StateSet {
     pub fn empty() -> StateSet
         ensures none { λ r. ⌜ ((q : ℕ) → has (r .words) q ≡ false) ⌝ }
         ensures same { λ r. ⌜ r ≡ empty-set ⌝ }
     {
-        no_states()
+        StateSet::none()
     }
 
     pub fn contains(&self, state: u16) -> bool
@@ -73,5 +66,12 @@ impl StateSet {
         ensures { λ r. ⌜ When r (Meeting (now (self .entry) .words) (now (other .entry) .words)) (Apart (now (self .entry) .words) (now (other .entry) .words)) ⌝ }
     {
         is_meeting(&self.words, &other.words)
+    }
+
+    fn none() -> StateSet
+        ensures none { λ r. ⌜ ((q : ℕ) → has (r .words) q ≡ false) ⌝ }
+        ensures same { λ r. ⌜ r ≡ empty-set ⌝ }
+    {
+        StateSet { words: [0; WORDS] }
     }
 }

@@ -13,7 +13,7 @@ use crate::state_set::StateSet;
 const ROWS: usize = STATES as usize;
 
 #[derive(Clone, Copy)]
-pub struct Table {
+pub(crate) struct Table {
     rows: [StateSet; ROWS],
 }
 
@@ -29,7 +29,7 @@ fn row_at(rows: &[StateSet], state: u16) -> StateSet
 }
 
 impl Table {
-    pub fn empty() -> Table
+    pub(crate) fn empty() -> Table
         ensures { λ r. ⌜ ((q p : ℕ) → lies (r .rows) q p ≡ false) ⌝ }
     {
         Table {
@@ -38,7 +38,7 @@ impl Table {
     }
 
     // Each state below `width` with itself.
-    pub fn identity(width: u16) -> Table
+    pub(crate) fn identity(width: u16) -> Table
         requires { ⌜ width ≤ most-states ⌝ }
         ensures { λ r. ⌜ ((q p : ℕ) → lies (r .rows) q p ≡ (ltb q width && eqb p q)) ⌝ }
     {
@@ -51,20 +51,20 @@ impl Table {
         table
     }
 
-    pub fn row(&self, state: u16) -> StateSet
+    pub(crate) fn row(&self, state: u16) -> StateSet
         ensures { λ r. ⌜ ((p : ℕ) → has (r .words) p ≡ lies (now (self .entry) .rows) state p) ⌝ }
     {
         row_at(&self.rows, state)
     }
 
-    pub fn contains(&self, state: u16, other: u16) -> bool
+    pub(crate) fn contains(&self, state: u16, other: u16) -> bool
         ensures { λ r. ⌜ r ≡ lies (now (self .entry) .rows) state other ⌝ }
     {
         self.row(state).contains(other)
     }
 
     // Each state that leads to `from` leads on to what `to` leads to.
-    pub fn join(&mut self, from: u16, to: u16, width: u16)
+    pub(crate) fn join(&mut self, from: u16, to: u16, width: u16)
         requires { ⌜ width ≤ most-states ⌝ }
         ensures { λ _. ⌜ ((q p : ℕ) → lies (now (self .exit) .rows) q p ≡ joined (lies (now (self .entry) .rows)) width from to q p) ⌝ }
     {
@@ -78,7 +78,7 @@ impl Table {
     }
 
     // Has it each pair of `other`, at the states below `width`?
-    pub fn covers(&self, other: &Table, width: u16) -> bool
+    pub(crate) fn covers(&self, other: &Table, width: u16) -> bool
         requires { ⌜ width ≤ most-states ⌝ }
         ensures { λ r. ⌜ When r (Covering width (lies (now (self .entry) .rows)) (lies (now (other .entry) .rows))) (Uncovered width (lies (now (self .entry) .rows)) (lies (now (other .entry) .rows))) ⌝ }
     {

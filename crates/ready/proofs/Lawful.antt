@@ -1,0 +1,30 @@
+-- The laws of every lawful book, from the table that it has. Assumes nothing.
+use mathlib.Core.Path.{_≡_}
+use Prim.Native.Nat.{ℕ, _<_}
+use Rattle.book.specs.Machines.{Machine, Lawful, selecting}
+use Rattle.book.specs.Tables.{Fits}
+use Rattle.book.proofs.Tables.{tables-decide-item, tables-decide-acceptance}
+use Rattle.book.proofs.Earliest.{items-are-one-of-three, too-early-is-wrong}
+use Rattle.ready.specs.Pairs.{Rel}
+use Rattle.ready.specs.Laws.{Decides-acceptance, Decides-items, Table-exists, Tests-exist, Items-decided}
+use Rattle.ready.proofs.Existence.{pairs-exist}
+use Rattle.ready.proofs.Relations.{fits}
+
+pub decides-acceptance : (m : Machine) (r : Rel) → Lawful m → 0 < m .width → Fits m r → Decides-acceptance m r
+decides-acceptance m r law some fit = tables-decide-acceptance m r law some fit
+
+pub decides-items : (m : Machine) (r : Rel) → Lawful m → 0 < m .width → Fits m r → Decides-items m r
+decides-items m r law some fit k marks = tables-decide-item (selecting m k) r law marks some fit
+
+pub table-exists : Table-exists
+table-exists m law = let a = pairs-exist m law in (a .0, fits m (a .0) (a .1))
+
+pub tests-exist : Tests-exist
+tests-exist m law some =
+    let a = table-exists m law in
+    (a .0, a .1, decides-acceptance m (a .0) law some (a .1), decides-items m (a .0) law some (a .1))
+
+pub items-decided : Items-decided
+items-decided m law marks h i sound =
+    let a = table-exists (m .shape) law in
+    (λ opened. items-are-one-of-three .2 m (a .0) law marks (a .1) h i sound opened, λ early. too-early-is-wrong .2 m (a .0) law marks (a .1) h i sound early)

@@ -1,0 +1,20 @@
+// What holds of every lawful book, since each can be made ready. The calls do nothing: their contracts are the laws.
+ghost use Rattle.ready.specs.Laws.{Table-exists, Tests-exist, Items-decided};
+
+pub fn table_exists_stands() -> u8
+    ensures { λ _. ⌜ Table-exists ⌝ }
+{
+    0
+}
+
+pub fn tests_exist_stands() -> u8
+    ensures { λ _. ⌜ Tests-exist ⌝ }
+{
+    0
+}
+
+pub fn items_decided_stands() -> u8
+    ensures { λ _. ⌜ Items-decided ⌝ }
+{
+    0
+}
