@@ -1,0 +1,4 @@
+// Making ready on examples: the rows of known books, written out, and how often a book is asked.
+pub mod counted;
+#[cfg(test)]
+mod rows;
