@@ -8,3 +8,13 @@ pub mod Ranges
 pub mod Tables
 pub mod Fitting
 pub mod Earliest
+pub mod ItemLists
+pub mod Checks
+pub mod History
+pub mod Exchanges
+pub mod Exact
+pub mod OneAnswer
+pub mod Runs
+pub mod Records
+pub mod Telling
+pub mod SomeAnswer

@@ -85,6 +85,12 @@ count-grows (Open t ∷ e) n = let k = count-grows e (suc n) in omega arith
 count-grows (Close t ∷ e) n = count-grows e n
 count-grows (End ∷ e) n = count-grows e n
 
+pub count-shift : (e : List Event) (n : ℕ) → follow count (suc n) e ≡ suc (follow count n e)
+count-shift [] n = refl
+count-shift (Open t ∷ e) n = count-shift e (suc n)
+count-shift (Close t ∷ e) n = count-shift e n
+count-shift (End ∷ e) n = count-shift e n
+
 pub opened-grows : (h e : List Event) → opened h ≤ opened (h ++ e)
 opened-grows h e = let k = count-grows e (opened h) in let a = follow-append count 0 h e in omega arith
 

@@ -8,3 +8,10 @@ pub mod Faults
 pub mod Levels
 pub mod Tables
 pub mod Earliest
+pub mod ItemLists
+pub mod Checks
+pub mod History
+pub mod Promise
+pub mod Shown
+pub mod PromiseLaws
+pub mod Watch

@@ -2,6 +2,10 @@
 ghost use Rattle.book.specs.Levels.{Levels-decide-selected, Levels-decide-accepted};
 ghost use Rattle.book.specs.Tables.{Tables-decide-item, Tables-decide-acceptance};
 ghost use Rattle.book.specs.Earliest.{Always-ending, Items-are-one-of-three, Decisions-last, End-decides, Right-if-due, Right-rule-orders-due, Order-right-if-due, Too-early-is-wrong};
+ghost use Rattle.book.specs.Checks.{One-outcome, Refused-by-topmost, Accepted-stays-sound};
+ghost use Rattle.book.specs.History.{One-history, History-is-sound};
+ghost use Rattle.book.specs.Shown.{Shown-is-enough};
+ghost use Rattle.book.specs.PromiseLaws.{One-answer, One-run, Answers-agree, Orders-are-the-due, Records-are-true, Some-answer};
 
 // Reach sets decide, level by level and both ways, what every and what some ending makes of an opened item.
 pub fn levels_decide_selected_stands() -> u8
@@ -83,6 +87,90 @@ pub fn order_right_if_due_stands() -> u8
 // An order of an item that is not due is wrong in some catalogue that the events begin.
 pub fn too_early_is_wrong_stands() -> u8
     ensures { λ _. ⌜ Too-early-is-wrong ⌝ }
+{
+    0
+}
+
+// A call is accepted, or refused with one line, and not both.
+pub fn one_outcome_stands() -> u8
+    ensures { λ _. ⌜ One-outcome ⌝ }
+{
+    0
+}
+
+// A call is refused with the line that is met and has no line above it that is.
+pub fn refused_by_topmost_stands() -> u8
+    ensures { λ _. ⌜ Refused-by-topmost ⌝ }
+{
+    0
+}
+
+// An accepted call breaks no rule of the catalogue.
+pub fn accepted_stays_sound_stands() -> u8
+    ensures { λ _. ⌜ Accepted-stays-sound ⌝ }
+{
+    0
+}
+
+// Calls bring one list of events at most.
+pub fn one_history_stands() -> u8
+    ensures { λ _. ⌜ One-history ⌝ }
+{
+    0
+}
+
+// The events that calls bring break no rule of the catalogue.
+pub fn history_is_sound_stands() -> u8
+    ensures { λ _. ⌜ History-is-sound ⌝ }
+{
+    0
+}
+
+// What a scan shows for an accepted call is enough for the promise.
+pub fn shown_is_enough_stands() -> u8
+    ensures { λ _. ⌜ Shown-is-enough ⌝ }
+{
+    0
+}
+
+// A call of a scan has one answer, and leaves one list.
+pub fn one_answer_stands() -> u8
+    ensures { λ _. ⌜ One-answer ⌝ }
+{
+    0
+}
+
+// The same calls with the same lists give the same exchanges throughout.
+pub fn one_run_stands() -> u8
+    ensures { λ _. ⌜ One-run ⌝ }
+{
+    0
+}
+
+// An answer is Ok just if the call is accepted, and Err with a line just if it is refused with it.
+pub fn answers_agree_stands() -> u8
+    ensures { λ _. ⌜ Answers-agree ⌝ }
+{
+    0
+}
+
+// The orders so far are those of just the due items, each once; after the end, of just the selected ones.
+pub fn orders_are_the_due_stands() -> u8
+    ensures { λ _. ⌜ Orders-are-the-due ⌝ }
+{
+    0
+}
+
+// Each order record tells its item, the event that opened it and the event at which it became due.
+pub fn records_are_true_stands() -> u8
+    ensures { λ _. ⌜ Records-are-true ⌝ }
+{
+    0
+}
+
+// Where a table fits, any calls have answers that keep the promise.
+pub fn some_answer_stands() -> u8
+    ensures { λ _. ⌜ Some-answer ⌝ }
 {
     0
 }
