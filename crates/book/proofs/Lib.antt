@@ -18,3 +18,8 @@ pub mod Runs
 pub mod Records
 pub mod Telling
 pub mod SomeAnswer
+pub mod Catalogues
+pub mod Simulations
+pub mod Opposites
+pub mod Boths
+pub mod LevelShapes

@@ -15,3 +15,8 @@ pub mod Promise
 pub mod Shown
 pub mod PromiseLaws
 pub mod Watch
+pub mod OutOfRange
+pub mod Places
+pub mod LevelShape
+pub mod Opposite
+pub mod Both

@@ -9,6 +9,14 @@ tags = 32
 abbrev pub most-states : ℕ
 most-states = 64
 
+-- the most steps of a path book; a path of n steps has 2 ^ n + 2 states
+abbrev pub most-steps : ℕ
+most-steps = 4
+
+-- the greatest depth of a level shape
+abbrev pub most-depth : ℕ
+most-depth = 32
+
 -- how many items may be open at once
 abbrev pub most-open : ℕ
 most-open = 64
