@@ -5,8 +5,9 @@ use Rattle.book.specs.Machines.{Machine, Lawful, selecting}
 use Rattle.book.specs.Tables.{Fits}
 use Rattle.book.proofs.Tables.{tables-decide-item, tables-decide-acceptance}
 use Rattle.book.proofs.Earliest.{items-are-one-of-three, too-early-is-wrong}
+use Rattle.book.proofs.SomeAnswer.{some-answer}
 use Rattle.ready.specs.Pairs.{Rel}
-use Rattle.ready.specs.Laws.{Decides-acceptance, Decides-items, Table-exists, Tests-exist, Items-decided}
+use Rattle.ready.specs.Laws.{Decides-acceptance, Decides-items, Table-exists, Tests-exist, Items-decided, Always-answerable, Answers-exist}
 use Rattle.ready.proofs.Existence.{pairs-exist}
 use Rattle.ready.proofs.Relations.{fits}
 
@@ -28,3 +29,9 @@ pub items-decided : Items-decided
 items-decided m law marks h i sound =
     let a = table-exists (m .shape) law in
     (λ opened. items-are-one-of-three .2 m (a .0) law marks (a .1) h i sound opened, λ early. too-early-is-wrong .2 m (a .0) law marks (a .1) h i sound early)
+
+pub answers-exist : Answers-exist
+answers-exist m law marks = let a = table-exists (m .shape) law in some-answer m (a .0) law marks (a .1)
+
+pub always-answerable : (m : Machine) → Lawful m → Always-answerable m
+always-answerable m law k marks = answers-exist (selecting m k) law marks

@@ -1,7 +1,7 @@
--- What a table that fits decides, said of one table, and that every lawful book has one.
+-- What a table that fits decides, said of one table; that every lawful book has one; and what follows for scans.
 use mathlib.Core.Path.{_≡_}
 use mathlib.Core.Bool.{Bool, true, false}
-use mathlib.Core.List.{List}
+use mathlib.Core.List.{List, [], _∷_, _++_, map}
 use Prim.Native.Nat.{ℕ, _<_}
 use Rattle.book.specs.declared.event.Event.{Event}
 use Rattle.book.specs.Catalogue.{nest, within, Sound}
@@ -9,6 +9,12 @@ use Rattle.book.specs.Machines.{Machine, Marks, Selecting, selecting, Lawful, L
 use Rattle.book.specs.Orders.{Opened, Due}
 use Rattle.book.specs.Tables.{Fits, may-end, Two-tests, Decided}
 use Rattle.book.specs.Earliest.{One-of-three, Left-out}
+use Rattle.book.specs.declared.answer.Order.{Order}
+use Rattle.book.specs.declared.answer.Totals.{Totals}
+use Rattle.book.specs.declared.answer.Refusal.{Refusal}
+use Rattle.std.specs.declared.result.Result.{Result}
+use Rattle.book.specs.Promise.{Exchange, exchange, Promise}
+use Rattle.book.specs.PromiseLaws.{Asked, asked}
 use Rattle.ready.specs.Pairs.{Rel}
 
 -- Of one table ----------------------------------------------------------------------------------------------------
@@ -24,6 +30,20 @@ Decides-items m reach = (k : Marks) → LawfulMarks m k →
     (h : List Event) (i : ℕ) (ts : List ℕ) → nest h ≡ within ts → Opened h i →
     Decided (selecting m k) h i (may-end reach m ts (run m (marking (selecting m k) i) h) true) (may-end reach m ts (run m (marking (selecting m k) i) h) false)
 
+-- Of scans --------------------------------------------------------------------------------------------------------
+
+-- the promise of a scan can be kept: each call has an answer that keeps it, after any exchanges that keep it, and so
+-- have any calls whatever
+abbrev pub Answerable : Selecting → Type 0
+Answerable m =
+    ((xs : List Exchange) → Promise m xs → (e : Event) (before : List Order) →
+    (a : Result Totals Refusal) × (later : List Order) × Promise m (xs ++ (exchange e before a later ∷ [])))
+    × ((calls : List Asked) → (xs : List Exchange) × (map asked xs ≡ calls) × Promise m xs)
+
+-- whatever lawful answers to mark the book has
+abbrev pub Always-answerable : Machine → Type 0
+Always-answerable m = (k : Marks) → LawfulMarks m k → Answerable (selecting m k)
+
 -- Of every lawful book --------------------------------------------------------------------------------------------
 
 abbrev pub Table-exists : Type 0
@@ -37,3 +57,6 @@ Tests-exist = (m : Machine) → Lawful m → 0 < m .width → (reach : Rel) × F
 abbrev pub Items-decided : Type 0
 Items-decided = (m : Selecting) → Lawful (m .shape) → LawfulMarks (m .shape) (m .mark) → (h : List Event) (i : ℕ) → Sound h →
     (Opened h i → One-of-three m h i) × ((Due m h i → ⊥) → Left-out m h i)
+
+abbrev pub Answers-exist : Type 0
+Answers-exist = (m : Selecting) → Lawful (m .shape) → LawfulMarks (m .shape) (m .mark) → Answerable m

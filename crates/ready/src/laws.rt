@@ -1,5 +1,5 @@
 // What holds of every lawful book, since each can be made ready. The calls do nothing: their contracts are the laws.
-ghost use Rattle.ready.specs.Laws.{Table-exists, Tests-exist, Items-decided};
+ghost use Rattle.ready.specs.Laws.{Answers-exist, Items-decided, Table-exists, Tests-exist};
 
 pub fn table_exists_stands() -> u8
     ensures { λ _. ⌜ Table-exists ⌝ }
@@ -15,6 +15,12 @@ pub fn tests_exist_stands() -> u8
 
 pub fn items_decided_stands() -> u8
     ensures { λ _. ⌜ Items-decided ⌝ }
+{
+    0
+}
+
+pub fn answers_exist_stands() -> u8
+    ensures { λ _. ⌜ Answers-exist ⌝ }
 {
     0
 }
