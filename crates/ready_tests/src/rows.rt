@@ -1,6 +1,12 @@
 // The rows of known books, the smallest first, and the questions that making ready asks.
 use crate::counted::Counted;
 use crate::counted::CountedShape;
+use book::both::Both;
+use book::both::BothShape;
+use book::level::LevelBook;
+use book::level::LevelShape;
+use book::opposite::Opposite;
+use book::opposite::OppositeShape;
 use book::shape_book::ShapeBook;
 use ready::ready::Ready;
 use ready::ready::make_ready;
@@ -29,6 +35,44 @@ fn no_states_no_rows() -> Result<(), Fail> {
     let ready = make_ready(empty_book());
     check(has_row(&ready, 0, &[]))?;
     check(!ready.is_dead(0))
+}
+
+#[test]
+fn level_shape_of_depth_three() -> Result<(), Fail> {
+    let Ok(level) = LevelShape::new(3) else {
+        return Err(Fail::new("depth"));
+    };
+    let ready = make_ready(level);
+    check(has_row(&ready, 0, &[0, 4]))?;
+    check(has_row(&ready, 1, &[1, 4]))?;
+    check(has_row(&ready, 3, &[3, 4]))?;
+    check(has_row(&ready, 4, &[4]))?;
+    check(ready.is_dead(4) && !ready.is_dead(3))
+}
+
+#[test]
+fn opposite_has_the_same_rows() -> Result<(), Fail> {
+    let ready = make_ready(Opposite::new(seal_book()));
+    let rows = has_row(&ready, 0, &[0]) && has_row(&ready, 1, &[1, 2]) && has_row(&ready, 2, &[2]);
+    let dead = ready.is_dead(2) && !ready.is_dead(3);
+    let _ = ready.hand_back().into_inner();
+    check(rows && dead)
+}
+
+// Depths 1 and 2: the state of the first, times 4, and the state of the second.
+#[test]
+fn both_goes_part_by_part() -> Result<(), Fail> {
+    let Ok(one) = LevelShape::new(1) else {
+        return Err(Fail::new("depth"));
+    };
+    let Ok(two) = LevelShape::new(2) else {
+        return Err(Fail::new("depth"));
+    };
+    let ready = make_ready(Both::new(one, two));
+    let top = has_row(&ready, 0, &[0, 8, 11]) && has_row(&ready, 2, &[2, 3, 11]);
+    let below = has_row(&ready, 5, &[5, 9, 11]) && has_row(&ready, 11, &[11]);
+    let _ = ready.hand_back().into_parts();
+    check(top && below)
 }
 
 #[test]
