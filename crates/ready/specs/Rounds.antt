@@ -1,5 +1,5 @@
 -- Making ready finds pairs of states in rounds. The order in which it finds them is free; this is what holds of it,
--- whatever the order: Finding, at the end of this file.
+-- whatever the order: Finding, below.
 use mathlib.Core.Path.{_≡_}
 use mathlib.Core.Bool.{true, false}
 use mathlib.Core.List.{List}
@@ -7,7 +7,7 @@ use mathlib.Core.Logic.{_↔_}
 use Prim.Native.Nat.{ℕ, _+_, _*_, _<_}
 use lib.ListN.{getD}
 use Rattle.book.specs.Limits.{tags}
-use Rattle.book.specs.Machines.{Machine}
+use Rattle.book.specs.Machines.{Machine, Lawful}
 use Rattle.book.specs.Rows.{Reach}
 use Rattle.ready.specs.Pairs.{Rel}
 
@@ -53,3 +53,10 @@ pub record Round (m : Machine) (asked r s : Rel) : Type 0 where
   pub found : Found m s
   pub growing : Grown r s
   pub answers : (q t : ℕ) → q < m .width → t < tags → Fresh-answers m r asked s q t
+
+-- The order is free: a search that has asked about each of its pairs has found what is wanted, and so the same as any
+-- other search, whatever each began with and in whatever order it went.
+abbrev pub Order-is-free : Type 0
+Order-is-free = (m : Machine) → Lawful m →
+    ((first r : Rel) → Finding m first r r → Rows-lead m r)
+    × ((first r other s : Rel) → Finding m first r r → Finding m other s s → (q p : ℕ) → r q p ≡ s q p)
