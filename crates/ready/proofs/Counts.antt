@@ -27,7 +27,7 @@ module _ (f g : ℕ → Bool) (more : (p : ℕ) → f p ≡ true → g p ≡ tru
   lack-le zero = omega arith
   lack-le (suc n) = omega (arith, lack-le n, one-le (f n) (g n) (more n))
 
-  lack-lt : (n k : ℕ) → k < n → f k ≡ false → g k ≡ true → lack g n < lack f n
+  pub lack-lt : (n k : ℕ) → k < n → f k ≡ false → g k ≡ true → lack g n < lack f n
   unfolding lack
   lack-lt zero k h a b = absurd (omega arith)
   lack-lt (suc n) k h a b = elim (cases-eq k n) [ inl e ↦ here e | inr ne ↦ omega (arith, lack-lt n k (omega arith) a b, one-le (f n) (g n) (more n)) ]

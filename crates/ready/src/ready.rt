@@ -4,11 +4,12 @@ ghost use mathlib.Core.Logic.{_↔_};
 ghost use mathlib.Core.Path.{_≡_};
 ghost use Prim.Native.Nat.{ℕ, _<_};
 ghost use Rattle.book.specs.Tables.{Fits};
-ghost use Rattle.ready.specs.Dead.{Dead};
+ghost use Rattle.ready.specs.Dead.{Dead, Lost};
 ghost use Rattle.ready.specs.Laws.{Always-answerable, Decides-acceptance, Decides-items};
 ghost use Rattle.ready.specs.Pairs.{lies};
 ghost use Rattle.ready.specs.Rounds.{Rows-lead};
 ghost use Rattle.ready.specs.Sets.{has};
+use crate::lost::find_lost;
 use crate::rounds::saturate;
 use crate::state_set::StateSet;
 use crate::table::Table;
@@ -70,6 +71,13 @@ impl<B: ShapeBook> Ready<B> {
         ensures { λ r. ⌜ (Rows-lead (B·ShapeBook .machine (now (self .entry) .book)) (lies (now (self .entry) .reach .rows)) → ((r ≡ true) ↔ Dead (B·ShapeBook .machine (now (self .entry) .book)) state)) ⌝ }
     {
         state < self.book.width() && !may_accept(self.book(), &self.row(state))
+    }
+
+    // The states of the book from which no way on is accepted, inside whatever items the run stands.
+    pub fn lost_states(&self) -> StateSet
+        ensures { λ r. ⌜ (Rows-lead (B·ShapeBook .machine (now (self .entry) .book)) (lies (now (self .entry) .reach .rows)) → (q : ℕ) → (has (r .words) q ≡ true) ↔ Lost (B·ShapeBook .machine (now (self .entry) .book)) q) ⌝ }
+    {
+        find_lost(&self.book, &self.reach)
     }
 }
 

@@ -87,6 +87,16 @@ fn seal_book_five_rows() -> Result<(), Fail> {
     check(ready.is_dead(3) && !ready.is_dead(1) && !ready.is_dead(2))
 }
 
+// No row leads from 0 or 4 to the accepting state, but the close of an item around them may.
+#[test]
+fn dead_inside_an_item_is_not_lost() -> Result<(), Fail> {
+    let ready = make_ready(seal_book());
+    check(ready.is_dead(0) && ready.is_dead(4))?;
+    let lost = ready.lost_states();
+    check(lost.contains(3))?;
+    check(!lost.contains(0) && !lost.contains(1) && !lost.contains(2) && !lost.contains(4))
+}
+
 #[test]
 fn rules_that_lead_back_to_themselves() -> Result<(), Fail> {
     let ready = make_ready(ring_book(3));
