@@ -30,12 +30,13 @@ bring-more event accepts refuses h [] c f g a b = subst (λ (x : List Event). Br
 bring-more event accepts refuses h (d ∷ cs) c f g (inl a) b = inl (a .0, bring-more event accepts refuses (h ++ (event d ∷ [])) cs c f g (a .1) b)
 bring-more event accepts refuses h (d ∷ cs) c f g (inr a) b = inr (a .0, bring-more event accepts refuses h cs c f g (a .1) b)
 
-pub bring-sound : {C : Type 0} (event : C → Event) (accepts : List Event → C → Type 0) (refuses : List Event → C → Refusal → Type 0)
-    → ((h : List Event) (c : C) → Sound h → accepts h c → Sound (h ++ (event c ∷ [])))
-    → (h : List Event) (cs : List C) (g : List Event) → Sound h → Bring event accepts refuses h cs g → Sound g
-bring-sound event accepts refuses keep h [] g s a = subst Sound (sym a) s
-bring-sound event accepts refuses keep h (c ∷ cs) g s (inl a) = bring-sound event accepts refuses keep (h ++ (event c ∷ [])) cs g (keep h c s (a .0)) (a .1)
-bring-sound event accepts refuses keep h (c ∷ cs) g s (inr a) = bring-sound event accepts refuses keep h cs g s (a .1)
+-- what each accepted call hands on holds of the events that the calls bring
+pub bring-keeps : {C : Type 0} (event : C → Event) (accepts : List Event → C → Type 0) (refuses : List Event → C → Refusal → Type 0) (P : List Event → Type 0)
+    → ((h : List Event) (c : C) → P h → accepts h c → P (h ++ (event c ∷ [])))
+    → (h : List Event) (cs : List C) (g : List Event) → P h → Bring event accepts refuses h cs g → P g
+bring-keeps event accepts refuses P keep h [] g s a = subst P (sym a) s
+bring-keeps event accepts refuses P keep h (c ∷ cs) g s (inl a) = bring-keeps event accepts refuses P keep (h ++ (event c ∷ [])) cs g (keep h c s (a .0)) (a .1)
+bring-keeps event accepts refuses P keep h (c ∷ cs) g s (inr a) = bring-keeps event accepts refuses P keep h cs g s (a .1)
 
 -- The calls of a scan and of a watch ------------------------------------------------------------------------------
 
@@ -62,11 +63,19 @@ pub watched-more : (m : Machine) (calls : List Event) (c : Event) (h g : List Ev
     → Bring itself (Watch-accepts m) (Watch-refuses m) h (c ∷ []) g → Watched-so-far m (calls ++ (c ∷ [])) g
 watched-more m calls c h g = bring-more itself (Watch-accepts m) (Watch-refuses m) [] calls c h g
 
+pub events-keep : (m : Selecting) (P : List Event → Type 0) → P [] → ((h : List Event) (c : Call) → P h → Accepts m h (c .room) (c .event) → P (h ++ (c .event ∷ [])))
+    → (calls : List Call) (h : List Event) → Events-so-far m calls h → P h
+events-keep m P start keep calls h = bring-keeps event-of (scan-accepts m) (scan-refuses m) P keep [] calls h start
+
+pub watched-keep : (m : Machine) (P : List Event → Type 0) → P [] → ((h : List Event) (e : Event) → P h → Watch-accepts m h e → P (h ++ (e ∷ [])))
+    → (calls h : List Event) → Watched-so-far m calls h → P h
+watched-keep m P start keep calls h = bring-keeps itself (Watch-accepts m) (Watch-refuses m) P keep [] calls h start
+
 pub events-sound : (m : Selecting) (calls : List Call) (h : List Event) → Events-so-far m calls h → Sound h
-events-sound m calls h = bring-sound event-of (scan-accepts m) (scan-refuses m) (λ g c. accepted-sound m g (c .room) (c .event)) [] calls h sound-none
+events-sound m = events-keep m Sound sound-none (λ g c. accepted-sound m g (c .room) (c .event))
 
 pub watched-sound : (m : Machine) (calls h : List Event) → Watched-so-far m calls h → Sound h
-watched-sound m calls h = bring-sound itself (Watch-accepts m) (Watch-refuses m) (watch-accepted-sound m) [] calls h sound-none
+watched-sound m = watched-keep m Sound sound-none (watch-accepted-sound m)
 
 pub one-history : One-history
 one-history = (events-same, watched-same)

@@ -217,3 +217,47 @@ pub listed : (P : ℕ → Type 0) (h : List Event) → ((i : ℕ) → P i → Op
 listed P h among dec =
     let r = picked P (opened h) 0 (λ i lo hi. dec i (omega arith, omega arith)) in
     (r .0, (r .1, λ i. (λ y. r .2 i .0 y .2, λ p. let o = among i p in r .2 i .1 ((let a = o .0 in omega arith), (let a = o .1 in omega arith), p))))
+
+-- How many there are ----------------------------------------------------------------------------------------------
+
+one-if-more : (a b : Bool) → (a ≡ true → b ≡ true) → one-if a ≤ one-if b
+one-if-more true b more = let e = ap one-if (more refl) in omega arith
+one-if-more false b more = omega arith
+
+pub tally-more : (b c : ℕ → Bool) (low n : ℕ) → ((i : ℕ) → b i ≡ true → c i ≡ true) → tally b low n ≤ tally c low n
+tally-more b c low zero more = omega arith
+tally-more b c low (suc n) more =
+    let here = one-if-more (b (suc low)) (c (suc low)) (more (suc low)) in
+    let rest = tally-more b c (suc low) n more in
+    omega arith
+
+pub tally-most : (b : ℕ → Bool) (low n : ℕ) → tally b low n ≤ n
+tally-most b low zero = omega arith
+tally-most b low (suc n) =
+    let here : one-if (b (suc low)) ≤ 1 = one-if-more (b (suc low)) true (λ y. refl) in
+    let rest = tally-most b (suc low) n in
+    omega arith
+
+-- of two lists without repetition, one that has all its numbers in the other is no longer
+pub once-fewer : (xs ys : List ℕ) (n : ℕ) → Once xs → Once ys → ((i : ℕ) → In i ys → (0 < i) × (i ≤ n)) → ((i : ℕ) → In i xs → In i ys) → length xs ≤ length ys
+once-fewer xs ys n o p among sub =
+    let a = tally-once xs n o (λ i y. among i (sub i y)) in
+    let b = tally-once ys n p among in
+    let c = tally-more (mem xs) (mem ys) 0 n (λ i y. in-mem ys i (sub i (mem-in xs i y))) in
+    omega arith
+
+pub counts-fewer : (P Q : ℕ → Type 0) (k l n : ℕ) → Counts P k → Counts Q l → ((i : ℕ) → P i → Q i) → ((i : ℕ) → Q i → (0 < i) × (i ≤ n)) → k ≤ l
+counts-fewer P Q k l n c d sub among =
+    let a = once-fewer (c .0) (d .0) n (rising-once 0 (c .0) (c .1 .0)) (rising-once 0 (d .0) (d .1 .0))
+    (λ i y. among i (d .1 .1 i .0 y)) (λ i y. d .1 .1 i .1 (sub i (c .1 .1 i .0 y))) in
+    let e = c .2 in
+    let f = d .2 in
+    omega arith
+
+-- a kind whose items are numbered up to n has at most n
+pub counts-most : (P : ℕ → Type 0) (k n : ℕ) → Counts P k → ((i : ℕ) → P i → i ≤ n) → k ≤ n
+counts-most P k n c among =
+    let a = tally-rising n 0 (c .0) (c .1 .0) (λ i y. let z = among i (c .1 .1 i .0 y) in omega arith) in
+    let b = tally-most (mem (c .0)) 0 n in
+    let d = c .2 in
+    omega arith

@@ -23,3 +23,6 @@ pub mod Simulations
 pub mod Opposites
 pub mod Boths
 pub mod LevelShapes
+pub mod Watch
+pub mod Acceptance
+pub mod Totals

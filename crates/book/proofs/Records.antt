@@ -7,7 +7,7 @@ use Prim.Native.Nat.{ℕ, zero, suc, pred, _+_, _≤_, _<_}
 use native.Mathlib.Omega.{arith}
 use lib.Dec.{eqb}
 use lib.ListN.{length, take, drop, length-append}
-use Rattle.std.proofs.shelf.Tests.{cases-eq, eq-eqb, ne-eqb}
+use Rattle.std.proofs.shelf.Tests.{cases-eq, cases-lt, eq-eqb, ne-eqb}
 use Rattle.std.specs.declared.result.Result.{Result}
 use Rattle.std.specs.declared.result.Result.the-variants.{Ok, Err}
 use Rattle.book.specs.declared.event.Event.{Event}
@@ -19,14 +19,14 @@ use Rattle.book.specs.Catalogue.{follow, count, opened, Sound}
 use Rattle.book.specs.Machines.{Selecting}
 use Rattle.book.specs.Orders.{Opened, Due}
 use Rattle.book.specs.ItemLists.{In}
-use Rattle.book.specs.Promise.{Exchange, opening, order, with-orders, Newly-due, Answered, Keeps, Promise}
-use Rattle.book.specs.PromiseLaws.{with-event, Opens-at, Due-at, Each, Records-are-true}
+use Rattle.book.specs.Promise.{Exchange, opening, order, item-of, orders-of, with-orders, Newly-due, Answered, Keeps, Promise}
+use Rattle.book.specs.PromiseLaws.{with-event, Opens-at, Due-at, Each, Has, Records-are-true, None-is-earlier}
 use Rattle.book.specs.Shown.{Exact}
 use Rattle.book.proofs.Nesting.{count-shift}
-use Rattle.book.proofs.Earliest.{due-opened}
+use Rattle.book.proofs.Earliest.{sound-before, due-opened, due-on, order-right-if-due}
 use Rattle.book.proofs.Checks.{accepted-sound}
 use Rattle.book.proofs.Exact.{exact-none, exact-step, first-records}
-use Rattle.book.proofs.Runs.{over-run-at}
+use Rattle.book.proofs.Runs.{over-run-at, exact-run}
 
 -- The event that opens an item ------------------------------------------------------------------------------------
 
@@ -92,3 +92,43 @@ pub records-are-true : Records-are-true
 records-are-true m xs h p at =
     over-run-at m (λ given g. Exact m g given × Each (True-record m g) given) (exact-none m, tt)
     (λ given g x y k. (exact-step m g given x (x .answer) (y .0) k, records-step m g given x (x .answer) (y .0) k (y .1))) xs h p at .1
+
+-- Earliest --------------------------------------------------------------------------------------------------------
+
+-- of two beginnings of a list, the shorter begins the longer
+beginning : {A : Type 0} (p d q e : List A) → p ++ d ≡ q ++ e → length p ≤ length q → (w : List A) × (q ≡ p ++ w)
+beginning [] d q e same le = (q, refl)
+beginning (x ∷ p) d [] e same le = absurd (omega arith)
+beginning (x ∷ p) d (y ∷ q) e same le =
+    let heads : x ≡ y = cc in
+    let r = beginning p d q e (cc) (omega arith) in
+    (r .0, (let b = r .1 in cc))
+
+has-item : (P : Order → Type 0) (rs : List Order) (i : ℕ) → Each P rs → In i (map item-of rs) → Has (λ r. (r .item ≡ i) × P r) rs
+has-item P [] i each y = y
+has-item P (r ∷ rs) i each (inl e) = inl (sym e, each .0)
+has-item P (r ∷ rs) i each (inr y) = inr (has-item P rs i (each .1) y)
+
+has-more : (P Q : Order → Type 0) (rs : List Order) → ((r : Order) → P r → Q r) → Has P rs → Has Q rs
+has-more P Q [] more y = y
+has-more P Q (r ∷ rs) more (inl y) = inl (more r y)
+has-more P Q (r ∷ rs) more (inr y) = inr (has-more P Q rs more y)
+
+-- a record is of no later event than any at which its item is due
+record-first : (m : Selecting) (h p d : List Event) (r : Order) → Sound h → h ≡ p ++ d → Due m p (r .item) → True-record m h r → r .ordered ≤ length p
+record-first m h p d r s at due true-record = elim (cases-lt (length p) (r .ordered)) [
+  | inl late ↦ absurd (let u = true-record .1 in
+      let n = u .4 in
+      let w = beginning p d (u .0) (u .1 ∷ u .2) (sym at ∙ u .3) (let z : length p ≤ length (u .0) = omega arith in z) in
+      u .5 .1 p (w .0) (w .1) (due-opened m p (r .item) (sound-before p d (subst Sound at s)) due) due)
+  | inr early ↦ early
+]
+
+pub none-is-earlier : None-is-earlier
+none-is-earlier m xs h run so-far p d i at right =
+    let due : Due m p i = order-right-if-due m p i .0 right in
+    let ex = exact-run m xs h run so-far in
+    let item : In i (map item-of (orders-of xs)) = ex .due i .1 (subst (λ (l : List Event). Due m l i) (sym at) (due-on m p d i due)) in
+    has-more (λ r. (r .item ≡ i) × True-record m h r) (λ r. (r .item ≡ i) × (r .ordered ≤ length p)) (orders-of xs)
+    (λ r y. (y .0, record-first m h p d r (ex .sound) at (subst (Due m p) (sym (y .0)) due) (y .1)))
+    (has-item (True-record m h) (orders-of xs) i (records-are-true m xs h run so-far) item)

@@ -35,10 +35,10 @@ less-or-not a b = elim (cases-lt a b) [ inl y ↦ inl y | inr z ↦ inr (λ y. o
 at-most-or-not : (a b : ℕ) → Either (a ≤ b)
 at-most-or-not a b = elim (cases-lt b a) [ inl y ↦ inr (λ z. omega arith) | inr z ↦ inl z ]
 
-same-open : (ts us : List ℕ) → within ts ≡ within us → ts ≡ us
+pub same-open : (ts us : List ℕ) → within ts ≡ within us → ts ≡ us
 same-open ts us e = cc
 
-same-head : (t u : ℕ) (ts us : List ℕ) → t ∷ ts ≡ u ∷ us → t ≡ u
+pub same-head : (t u : ℕ) (ts us : List ℕ) → t ∷ ts ≡ u ∷ us → t ≡ u
 same-head t u ts us e = cc
 
 -- Where the events stand ------------------------------------------------------------------------------------------

@@ -20,3 +20,4 @@ pub mod Places
 pub mod LevelShape
 pub mod Opposite
 pub mod Both
+pub mod Acceptance

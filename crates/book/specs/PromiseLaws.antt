@@ -2,12 +2,11 @@
 use mathlib.Core.Path.{_≡_}
 use mathlib.Core.Bool.{Bool, true, false}
 use mathlib.Core.List.{List, [], _∷_, _++_, map}
-use mathlib.Core.Logic.{_↔_}
-use Prim.Native.Nat.{ℕ, suc, _≤_}
+use mathlib.Core.Logic.{_↔_, _⊎_}
+use Prim.Native.Nat.{ℕ, suc, _+_, _≤_}
 use lib.ListN.{length}
 use Rattle.std.specs.declared.result.Result.{Result}
 use Rattle.std.specs.declared.result.Result.the-variants.{Ok, Err}
-use Rattle.book.specs.Limits.{least-room}
 use Rattle.book.specs.declared.event.Event.{Event}
 use Rattle.book.specs.declared.event.Event.the-variants.{Open}
 use Rattle.book.specs.declared.answer.Order.{Order}
@@ -15,9 +14,10 @@ use Rattle.book.specs.declared.answer.Totals.{Totals}
 use Rattle.book.specs.declared.answer.Refusal.{Refusal}
 use Rattle.book.specs.Catalogue.{nest, over, Sound, opened}
 use Rattle.book.specs.Machines.{Selecting, Lawful, LawfulMarks, selected}
-use Rattle.book.specs.Orders.{Due}
+use Rattle.book.specs.Orders.{Due, Dropped, Held}
 use Rattle.book.specs.Tables.{Fits}
-use Rattle.book.specs.ItemLists.{In, Once}
+use Rattle.book.specs.Earliest.{Order-right}
+use Rattle.book.specs.ItemLists.{In, Once, Counts}
 use Rattle.book.specs.Checks.{Accepts, Refuses}
 use Rattle.book.specs.History.{Events-so-far}
 use Rattle.book.specs.Promise.{Exchange, exchange, call-of, orders-of, item-of, Newly-due, Keeps, Promise}
@@ -100,3 +100,34 @@ Each P (r ∷ rs) = P r × Each P rs
 abbrev pub Records-are-true : Type 0
 Records-are-true = (m : Selecting) (xs : List Exchange) (h : List Event) → Promise m xs → Events-so-far m (map call-of xs) h →
     Each (λ r. Opens-at h (r .item) (r .opened) × Due-at m h (r .item) (r .ordered)) (orders-of xs)
+
+-- Earliest --------------------------------------------------------------------------------------------------------
+
+abbrev pub Has : (Order → Type 0) → List Order → Type 0
+Has P [] = ⊥
+Has P (r ∷ rs) = P r ⊎ Has P rs
+
+-- Whoever gives a right order after some of the events so far, by whatever rule, gives it no earlier: the item was
+-- ordered at one of those events.
+abbrev pub None-is-earlier : Type 0
+None-is-earlier = (m : Selecting) (xs : List Exchange) (h : List Event) → Promise m xs → Events-so-far m (map call-of xs) h →
+    (p d : List Event) (i : ℕ) → h ≡ p ++ d → Order-right m p i → Has (λ r. (r .item ≡ i) × (r .ordered ≤ length p)) (orders-of xs)
+
+-- Totals and lists ------------------------------------------------------------------------------------------------
+
+-- an exchange of the run that was answered Ok a
+abbrev pub Answered-ok : List Exchange → List Exchange → Exchange → Totals → Type 0
+Answered-ok xs ys x a = ((zs : List Exchange) × (xs ≡ ys ++ (x ∷ zs))) × (x .answer ≡ Ok a)
+
+-- the totals after an accepted call count the items of each kind, of which each opened item is of one
+abbrev pub Totals-are-true : Type 0
+Totals-are-true = (m : Selecting) (xs ys : List Exchange) (x : Exchange) (a : Totals) → Promise m xs → Answered-ok xs ys x a →
+    let now : List Event = events-of ys ++ (x .call ∷ []) in
+    (a .opened ≡ opened now) × Counts (Due m now) (a .ordered) × Counts (Dropped m now) (a .dropped) × Counts (Held m now) (a .held)
+    × (a .opened ≡ a .ordered + a .dropped + a .held)
+
+-- no call orders more than 129 items, so that the orders fit, and no list changes its length
+abbrev pub Lists-keep-length : Type 0
+Lists-keep-length =
+    ((m : Selecting) (xs ys : List Exchange) (x : Exchange) (a : Totals) → Promise m xs → Answered-ok xs ys x a → a .orders ≤ 129)
+    × ((m : Selecting) (xs ys : List Exchange) (x : Exchange) (zs : List Exchange) → Promise m xs → xs ≡ ys ++ (x ∷ zs) → length (x .later) ≡ length (x .before))

@@ -5,7 +5,9 @@ ghost use Rattle.book.specs.Earliest.{Always-ending, Items-are-one-of-three, D
 ghost use Rattle.book.specs.Checks.{One-outcome, Refused-by-topmost, Accepted-stays-sound};
 ghost use Rattle.book.specs.History.{One-history, History-is-sound};
 ghost use Rattle.book.specs.Shown.{Shown-is-enough};
-ghost use Rattle.book.specs.PromiseLaws.{One-answer, One-run, Answers-agree, Orders-are-the-due, Records-are-true, Some-answer};
+ghost use Rattle.book.specs.PromiseLaws.{One-answer, One-run, Answers-agree, Orders-are-the-due, Records-are-true, Some-answer, Totals-are-true, Lists-keep-length, None-is-earlier};
+ghost use Rattle.book.specs.Watch.{Verdicts-mean, One-verdict, End-verdict, One-watch-run, Some-watch-answer, Watch-answers-agree};
+ghost use Rattle.book.specs.Acceptance.{Numbers-of-lines, Tags-and-states, Accepted-calls, Accepted-watch-calls, Calls-are-refused, Watch-calls-are-refused, History-within-limits, Sixty-four-deep};
 
 // Reach sets decide, level by level and both ways, what every and what some ending makes of an opened item.
 pub fn levels_decide_selected_stands() -> u8
@@ -171,6 +173,125 @@ pub fn records_are_true_stands() -> u8
 // Where a table fits, any calls have answers that keep the promise.
 pub fn some_answer_stands() -> u8
     ensures { λ _. ⌜ Some-answer ⌝ }
+{
+    0
+}
+
+// What a verdict says of the catalogues that the events begin.
+pub fn verdicts_mean_stands() -> u8
+    ensures { λ _. ⌜ Verdicts-mean ⌝ }
+{
+    0
+}
+
+// Events that break no rule have one verdict at most.
+pub fn one_verdict_stands() -> u8
+    ensures { λ _. ⌜ One-verdict ⌝ }
+{
+    0
+}
+
+// After the end the verdict is yes just if the catalogue is accepted.
+pub fn end_verdict_stands() -> u8
+    ensures { λ _. ⌜ End-verdict ⌝ }
+{
+    0
+}
+
+// The same calls of a watch have the same answers throughout.
+pub fn one_watch_run_stands() -> u8
+    ensures { λ _. ⌜ One-watch-run ⌝ }
+{
+    0
+}
+
+// Where a table fits, any calls of a watch have answers that keep the promise.
+pub fn some_watch_answer_stands() -> u8
+    ensures { λ _. ⌜ Some-watch-answer ⌝ }
+{
+    0
+}
+
+// An answer of a watch is Ok just if the call is accepted.
+pub fn watch_answers_agree_stands() -> u8
+    ensures { λ _. ⌜ Watch-answers-agree ⌝ }
+{
+    0
+}
+
+// The refusals of a scan are numbered 1 to 10 down the table.
+pub fn numbers_of_lines_stands() -> u8
+    ensures { λ _. ⌜ Numbers-of-lines ⌝ }
+{
+    0
+}
+
+// Tags are 0 to 31, and a book has at most 64 states.
+pub fn tags_and_states_stands() -> u8
+    ensures { λ _. ⌜ Tags-and-states ⌝ }
+{
+    0
+}
+
+// Just when a call of a scan is accepted.
+pub fn accepted_calls_stands() -> u8
+    ensures { λ _. ⌜ Accepted-calls ⌝ }
+{
+    0
+}
+
+// Just when a call of a watch is accepted.
+pub fn accepted_watch_calls_stands() -> u8
+    ensures { λ _. ⌜ Accepted-watch-calls ⌝ }
+{
+    0
+}
+
+// What a call of a scan is refused with.
+pub fn calls_are_refused_stands() -> u8
+    ensures { λ _. ⌜ Calls-are-refused ⌝ }
+{
+    0
+}
+
+// What a call of a watch is refused with.
+pub fn watch_calls_are_refused_stands() -> u8
+    ensures { λ _. ⌜ Watch-calls-are-refused ⌝ }
+{
+    0
+}
+
+// The events that calls bring stay within the limits.
+pub fn history_within_limits_stands() -> u8
+    ensures { λ _. ⌜ History-within-limits ⌝ }
+{
+    0
+}
+
+// On any book a 64th nested item is accepted, and a 65th refused.
+pub fn sixty_four_deep_stands() -> u8
+    ensures { λ _. ⌜ Sixty-four-deep ⌝ }
+{
+    0
+}
+
+// The totals after an accepted call count the items of each kind.
+pub fn totals_are_true_stands() -> u8
+    ensures { λ _. ⌜ Totals-are-true ⌝ }
+{
+    0
+}
+
+// No call orders more than 129 items, and no list changes its length.
+pub fn lists_keep_length_stands() -> u8
+    ensures { λ _. ⌜ Lists-keep-length ⌝ }
+{
+    0
+}
+
+// Whoever gives a right order, by whatever rule, gives it no earlier than a scan that keeps the promise.
+pub fn none_is_earlier_stands() -> u8
+    ensures { λ _. ⌜ None-is-earlier ⌝ }
 {
     0
 }

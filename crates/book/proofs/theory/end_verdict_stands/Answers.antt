@@ -1,0 +1,5 @@
+use Rattle.book.proofs.Watch.{end-verdict}
+use Rattle.book.proofs.theory.end_verdict_stands.Needs as need
+
+pub returns : need.returns
+returns c = end-verdict
