@@ -7,9 +7,10 @@ use Rattle.book.specs.Tables.{Fits}
 use Rattle.book.proofs.Tables.{tables-decide-item, tables-decide-acceptance}
 use Rattle.book.proofs.Earliest.{items-are-one-of-three, too-early-is-wrong}
 use Rattle.book.proofs.SomeAnswer.{some-answer}
+use Rattle.book.proofs.Watch.{some-watch-answer}
 use Rattle.ready.specs.Pairs.{Rel}
 use Rattle.ready.specs.Rounds.{Rows-lead, Finding, Order-is-free}
-use Rattle.ready.specs.Laws.{Decides-acceptance, Decides-items, Table-exists, Tests-exist, Items-decided, Always-answerable, Answers-exist}
+use Rattle.ready.specs.Laws.{Decides-acceptance, Decides-items, Table-exists, Tests-exist, Items-decided, Always-answerable, Answers-exist, Verdicts-exist}
 use Rattle.ready.proofs.Existence.{pairs-exist}
 use Rattle.ready.proofs.Relations.{fits, rows-lead}
 
@@ -37,6 +38,9 @@ answers-exist m law marks = let a = table-exists (m .shape) law in some-answer m
 
 pub always-answerable : (m : Machine) → Lawful m → Always-answerable m
 always-answerable m law k marks = answers-exist (selecting m k) law marks
+
+pub verdicts-exist : Verdicts-exist
+verdicts-exist m law = let a = table-exists m law in some-watch-answer m (a .0) law (a .1)
 
 -- two tests that hold of the same are the same
 same-test : (x y : Bool) → (x ≡ true → y ≡ true) → (y ≡ true → x ≡ true) → x ≡ y

@@ -1,4 +1,5 @@
--- What a table that fits decides, said of one table; that every lawful book has one; and what follows for scans.
+-- What a table that fits decides, said of one table; that every lawful book has one; and what follows for scans
+-- and watches.
 use mathlib.Core.Path.{_≡_}
 use mathlib.Core.Bool.{Bool, true, false}
 use mathlib.Core.List.{List, [], _∷_, _++_, map}
@@ -12,9 +13,11 @@ use Rattle.book.specs.Earliest.{One-of-three, Left-out}
 use Rattle.book.specs.declared.answer.Order.{Order}
 use Rattle.book.specs.declared.answer.Totals.{Totals}
 use Rattle.book.specs.declared.answer.Refusal.{Refusal}
+use Rattle.book.specs.declared.answer.Verdict.{Verdict}
 use Rattle.std.specs.declared.result.Result.{Result}
 use Rattle.book.specs.Promise.{Exchange, exchange, Promise}
 use Rattle.book.specs.PromiseLaws.{Asked, asked}
+use Rattle.book.specs.Watch.{WatchExchange, watch-exchange, watch-call, Watch-promise}
 use Rattle.ready.specs.Pairs.{Rel}
 
 -- Of one table ----------------------------------------------------------------------------------------------------
@@ -30,7 +33,7 @@ Decides-items m reach = (k : Marks) → LawfulMarks m k →
     (h : List Event) (i : ℕ) (ts : List ℕ) → nest h ≡ within ts → Opened h i →
     Decided (selecting m k) h i (may-end reach m ts (run m (marking (selecting m k) i) h) true) (may-end reach m ts (run m (marking (selecting m k) i) h) false)
 
--- Of scans --------------------------------------------------------------------------------------------------------
+-- Of scans and watches --------------------------------------------------------------------------------------------
 
 -- the promise of a scan can be kept: each call has an answer that keeps it, after any exchanges that keep it, and so
 -- have any calls whatever
@@ -43,6 +46,12 @@ Answerable m =
 -- whatever lawful answers to mark the book has
 abbrev pub Always-answerable : Machine → Type 0
 Always-answerable m = (k : Marks) → LawfulMarks m k → Answerable (selecting m k)
+
+-- the same of a watch
+abbrev pub Watchable : Machine → Type 0
+Watchable m =
+    ((xs : List WatchExchange) → Watch-promise m xs → (e : Event) → (a : Result Verdict Refusal) × Watch-promise m (xs ++ (watch-exchange e a ∷ [])))
+    × ((calls : List Event) → (xs : List WatchExchange) × (map watch-call xs ≡ calls) × Watch-promise m xs)
 
 -- Of every lawful book --------------------------------------------------------------------------------------------
 
@@ -60,3 +69,6 @@ Items-decided = (m : Selecting) → Lawful (m .shape) → LawfulMarks (m .shape)
 
 abbrev pub Answers-exist : Type 0
 Answers-exist = (m : Selecting) → Lawful (m .shape) → LawfulMarks (m .shape) (m .mark) → Answerable m
+
+abbrev pub Verdicts-exist : Type 0
+Verdicts-exist = (m : Machine) → Lawful m → Watchable m

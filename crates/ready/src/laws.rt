@@ -1,5 +1,5 @@
 // What holds of every lawful book, since each can be made ready. The calls do nothing: their contracts are the laws.
-ghost use Rattle.ready.specs.Laws.{Answers-exist, Items-decided, Table-exists, Tests-exist};
+ghost use Rattle.ready.specs.Laws.{Answers-exist, Items-decided, Table-exists, Tests-exist, Verdicts-exist};
 ghost use Rattle.ready.specs.Rounds.{Order-is-free};
 
 pub fn table_exists_stands() -> u8
@@ -22,6 +22,12 @@ pub fn items_decided_stands() -> u8
 
 pub fn answers_exist_stands() -> u8
     ensures { λ _. ⌜ Answers-exist ⌝ }
+{
+    0
+}
+
+pub fn verdicts_exist_stands() -> u8
+    ensures { λ _. ⌜ Verdicts-exist ⌝ }
 {
     0
 }

@@ -5,7 +5,7 @@ ghost use mathlib.Core.Path.{_≡_};
 ghost use Prim.Native.Nat.{ℕ, _<_};
 ghost use Rattle.book.specs.Tables.{Fits};
 ghost use Rattle.ready.specs.Dead.{Dead, Lost};
-ghost use Rattle.ready.specs.Laws.{Always-answerable, Decides-acceptance, Decides-items};
+ghost use Rattle.ready.specs.Laws.{Always-answerable, Decides-acceptance, Decides-items, Watchable};
 ghost use Rattle.ready.specs.Pairs.{lies};
 ghost use Rattle.ready.specs.Rounds.{Rows-lead};
 ghost use Rattle.ready.specs.Sets.{has};
@@ -30,6 +30,7 @@ pub fn make_ready<B: ShapeBook>(book: B) -> Ready<B>
     ensures acceptance { λ r. ⌜ (0 < B·ShapeBook .machine book .width → Decides-acceptance (B·ShapeBook .machine book) (lies (r .reach .rows))) ⌝ }
     ensures items { λ r. ⌜ (0 < B·ShapeBook .machine book .width → Decides-items (B·ShapeBook .machine book) (lies (r .reach .rows))) ⌝ }
     ensures scans { λ _. ⌜ Always-answerable (B·ShapeBook .machine book) ⌝ }
+    ensures watches { λ _. ⌜ Watchable (B·ShapeBook .machine book) ⌝ }
 {
     let reach = saturate(&book);
     Ready { book, reach }

@@ -7,7 +7,7 @@ ghost use Rattle.std.specs.Orderings.{When};
 ghost use Rattle.book.specs.Limits.{tags};
 ghost use Rattle.book.specs.Rows.{Reach};
 ghost use Rattle.book.specs.Tables.{Fits};
-ghost use Rattle.ready.specs.Laws.{Always-answerable, Decides-acceptance, Decides-items};
+ghost use Rattle.ready.specs.Laws.{Always-answerable, Decides-acceptance, Decides-items, Watchable};
 ghost use Rattle.ready.specs.Sets.{has};
 ghost use Rattle.ready.specs.Pairs.{lies, joined, Covering, Uncovered};
 ghost use Rattle.ready.specs.Rounds.{Rows-lead, Entries, Grown, Found, Answers, Fresh-answers, Round};
@@ -137,6 +137,7 @@ pub(crate) fn saturate<B: ShapeBook>(book: &B) -> Table
     ensures acceptance { λ r. ⌜ (0 < B·ShapeBook .machine (now (book .entry)) .width → Decides-acceptance (B·ShapeBook .machine (now (book .entry))) (lies (r .rows))) ⌝ }
     ensures items { λ r. ⌜ (0 < B·ShapeBook .machine (now (book .entry)) .width → Decides-items (B·ShapeBook .machine (now (book .entry))) (lies (r .rows))) ⌝ }
     ensures scans { λ _. ⌜ Always-answerable (B·ShapeBook .machine (now (book .entry))) ⌝ }
+    ensures watches { λ _. ⌜ Watchable (B·ShapeBook .machine (now (book .entry))) ⌝ }
 {
     find_pairs(book)
 }

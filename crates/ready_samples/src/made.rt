@@ -1,4 +1,7 @@
 // The sample books: the seal book, random books, and books that take as many rounds as they have states.
+ghost use mathlib.Core.Path.{_≡_};
+ghost use Prim.Native.Nat.{max, min};
+ghost use Rattle.book.specs.Limits.{most-states};
 use crate::BY_STATE;
 use crate::BY_TAG;
 use crate::STATES;
@@ -43,7 +46,9 @@ const SEAL_SIDE: [u8; 25] = [
 ];
 
 // A reel that a later sibling seal follows is selected; tag 1 is reel, tag 2 is seal.
-pub fn seal_book() -> SampleBook {
+pub fn seal_book() -> SampleBook
+    ensures { λ r. ⌜ r .width ≡ 5 ⌝ }
+{
     let mut accept = [false; STATES];
     accept[2] = true;
     let mut enter = [0u8; BY_TAG];
@@ -72,8 +77,10 @@ fn next_random(seed: u32) -> u32 {
     seed.wrapping_mul(1664525).wrapping_add(1013904223)
 }
 
-// Each answer is any state.
-pub fn random_book(width: u8, seed: u32) -> SampleBook {
+// Each answer is any state. This and the books below have as many states as asked for, from 1 to 64.
+pub fn random_book(width: u8, seed: u32) -> SampleBook
+    ensures { λ r. ⌜ r .width ≡ max (min width most-states) 1 ⌝ }
+{
     let states = width.min(64).max(1);
     let mut accept = [false; STATES];
     let mut enter = [0u8; BY_TAG];
@@ -104,7 +111,9 @@ pub fn random_book(width: u8, seed: u32) -> SampleBook {
 }
 
 // Each state enters the next; an item behind which the last state was reached leads to the last state, or one state on.
-fn climbing_book(width: u8, on_by_one: bool) -> SampleBook {
+fn climbing_book(width: u8, on_by_one: bool) -> SampleBook
+    ensures { λ r. ⌜ r .width ≡ max (min width most-states) 1 ⌝ }
+{
     let states = width.min(64).max(1) as usize;
     let mut enter = [0u8; BY_TAG];
     let mut up = [0u8; BY_TAG];
@@ -132,18 +141,24 @@ fn climbing_book(width: u8, on_by_one: bool) -> SampleBook {
 }
 
 // A chain as long as the width: a state reaches itself and the last one, and each round finds one pair.
-pub fn chain_book(width: u8) -> SampleBook {
+pub fn chain_book(width: u8) -> SampleBook
+    ensures { λ r. ⌜ r .width ≡ max (min width most-states) 1 ⌝ }
+{
     climbing_book(width, false)
 }
 
 // A chain in which each state reaches all that follow it, found from the last to the first.
-pub fn stairs_book(width: u8) -> SampleBook {
+pub fn stairs_book(width: u8) -> SampleBook
+    ensures { λ r. ⌜ r .width ≡ max (min width most-states) 1 ⌝ }
+{
     climbing_book(width, true)
 }
 
 // Each state enters the next, the last one the first: rules that lead back to themselves. Behind an item the run goes
 // on in the inner state.
-pub fn ring_book(width: u8) -> SampleBook {
+pub fn ring_book(width: u8) -> SampleBook
+    ensures { λ r. ⌜ r .width ≡ max (min width most-states) 1 ⌝ }
+{
     let states = width.min(64).max(1) as usize;
     let mut accept = [false; STATES];
     let mut enter = [0u8; BY_TAG];
@@ -169,7 +184,9 @@ pub fn ring_book(width: u8) -> SampleBook {
 }
 
 // No states at all.
-pub fn empty_book() -> SampleBook {
+pub fn empty_book() -> SampleBook
+    ensures { λ r. ⌜ r .width ≡ 0 ⌝ }
+{
     SampleBook {
         width: 0,
         accept: [false; STATES],

@@ -1,6 +1,6 @@
 use Rattle.ready.specs.Pairs.{lies}
 use Rattle.ready.proofs.Relations.{fits}
-use Rattle.ready.proofs.Lawful.{always-answerable, decides-acceptance, decides-items}
+use Rattle.ready.proofs.Lawful.{always-answerable, decides-acceptance, decides-items, verdicts-exist}
 use Rattle.ready.proofs.rounds.saturate.Needs as need
 
 pub returns : need.returns
@@ -15,4 +15,5 @@ returns g c =
       acceptance = λ some. decides-acceptance m reach law some fit;
       items = λ some. decides-items m reach law some fit;
       scans = always-answerable m law;
+      watches = verdicts-exist m law;
     }
