@@ -16,11 +16,11 @@ pub mod Promise
 pub mod Shown
 pub mod PromiseLaws
 pub mod Watch
-pub mod Acceptance
 pub mod OutOfRange
 pub mod Places
 pub mod LevelShape
-pub mod Path
 pub mod Opposite
 pub mod Both
+pub mod Acceptance
+pub mod Path
 pub mod KindCases

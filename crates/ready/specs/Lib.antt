@@ -1,0 +1,5 @@
+pub mod Sets
+pub mod Pairs
+pub mod Rounds
+pub mod Dead
+pub mod Laws
