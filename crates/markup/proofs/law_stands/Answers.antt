@@ -1,0 +1,5 @@
+use Rattle.markup.proofs.OneReading.{one-reading}
+use Rattle.markup.proofs.law_stands.Needs as need
+
+pub returns : need.returns
+returns c = one-reading

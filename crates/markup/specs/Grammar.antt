@@ -1,0 +1,154 @@
+-- The accepted markup, a part of XML 1.0 over bytes. Numbers in brackets are those of XML's productions.
+use mathlib.Core.Path.{_≡_}
+use mathlib.Core.Bool.{Bool, true, false, _&&_, _||_, not}
+use mathlib.Core.List.{List, [], _∷_, _++_}
+use Prim.Native.Nat.{ℕ, _+_}
+use lib.Dec.{leb, eqb}
+use Rattle.name_bytes.specs.Names.{all, right-name}
+use lib.ListN.{length}
+use lib.Chars.{codes}
+
+-- [3] white space
+abbrev pub white : ℕ → Bool
+white b = eqb b 32 || eqb b 9 || eqb b 10 || eqb b 13
+
+-- [2] what may stand anywhere: bytes from 128 up are not looked at
+abbrev pub allowed : ℕ → Bool
+allowed b = leb 32 b || white b
+
+-- what may stand for itself in text or in a value: no `<`, no `&`, and not the sign that ends it
+abbrev pub plain : ℕ → ℕ → Bool
+plain stop b = allowed b && not (eqb b 60) && not (eqb b 38) && not (eqb b stop)
+
+-- S? and [3] S
+pub record Space : Type 0 where
+  pub bytes : List ℕ
+  pub blank : all white bytes ≡ true
+
+-- [5] a right name, by its first byte and the others
+pub record Name : Type 0 where
+  pub first : ℕ
+  pub others : List ℕ
+  pub right : right-name (first ∷ others) ≡ true
+
+abbrev pub name : Name → List ℕ
+name n = n .first ∷ n .others
+
+-- [68] the five that need no declaration
+pub data Reference : Type 0 where
+  amp : Reference
+  lt : Reference
+  gt : Reference
+  quot : Reference
+  apos : Reference
+
+abbrev pub reference : Reference → List ℕ
+reference amp = codes "&amp;"
+reference lt = codes "&lt;"
+reference gt = codes "&gt;"
+reference quot = codes "&quot;"
+reference apos = codes "&apos;"
+
+-- [14] and what a value has between its quotes: a byte for itself, or a reference
+pub data Char (stop : ℕ) : Type 0 where
+  itself : (b : ℕ) → plain stop b ≡ true → Char stop
+  referred : Reference → Char stop
+
+abbrev pub char : {stop : ℕ} → Char stop → List ℕ
+char (itself b ok) = b ∷ []
+char (referred r) = reference r
+
+abbrev pub chars : {stop : ℕ} → List (Char stop) → List ℕ
+chars [] = []
+chars (c ∷ cs) = char c ++ chars cs
+
+-- [10] a value and its quotes
+pub data Quote : Type 0 where
+  single : Quote
+  double : Quote
+
+abbrev pub sign : Quote → ℕ
+sign single = 39
+sign double = 34
+
+-- [41] with the white space before it, up to its value; [25] `=` and the white space around it
+pub record Opening : Type 0 where
+  pub apart : ℕ
+  pub is-white : white apart ≡ true
+  pub space : Space
+  pub named : Name
+  pub before : Space
+  pub behind : Space
+
+abbrev pub opening : Opening → List ℕ
+opening o = o .apart ∷ (o .space .bytes ++ (name (o .named) ++ (o .before .bytes ++ (61 ∷ o .behind .bytes))))
+
+pub record Attribute : Type 0 where
+  pub opened : Opening
+  pub quote : Quote
+  pub value : List (Char (sign quote))
+
+abbrev pub attribute : Attribute → List ℕ
+attribute a = opening (a .opened) ++ (sign (a .quote) ∷ (chars (a .value) ++ (sign (a .quote) ∷ [])))
+
+abbrev pub attributes : List Attribute → List ℕ
+attributes [] = []
+attributes (a ∷ ats) = attribute a ++ attributes ats
+
+-- [15] what a comment has inside: a byte that is no `-`, perhaps with a `-` before it
+pub data Remark : Type 0 where
+  byte : (b : ℕ) → eqb b 45 ≡ false → allowed b ≡ true → Remark
+  hyphen : (b : ℕ) → eqb b 45 ≡ false → allowed b ≡ true → Remark
+
+abbrev pub remark : Remark → List ℕ
+remark (byte b n ok) = b ∷ []
+remark (hyphen b n ok) = 45 ∷ (b ∷ [])
+
+abbrev pub remarks : List Remark → List ℕ
+remarks [] = []
+remarks (c ∷ cs) = remark c ++ remarks cs
+
+-- [43] what text is made of: here tags need not nest
+pub data Piece : Type 0 where
+  content : Char 60 → Piece
+  comment : List Remark → Piece
+  starting : Name → List Attribute → Space → Piece
+  empty : Name → List Attribute → Space → Piece
+  ending : Name → Space → Piece
+
+-- [14] [15] [40] [44] [42]
+abbrev pub piece : Piece → List ℕ
+piece (content c) = char c
+piece (comment cs) = codes "<!--" ++ (remarks cs ++ codes "-->")
+piece (starting n ats s) = 60 ∷ (name n ++ (attributes ats ++ (s .bytes ++ codes ">")))
+piece (empty n ats s) = 60 ∷ (name n ++ (attributes ats ++ (s .bytes ++ codes "/>")))
+piece (ending n s) = 60 ∷ (47 ∷ (name n ++ (s .bytes ++ codes ">")))
+
+abbrev pub markup : List Piece → List ℕ
+markup [] = []
+markup (x ∷ xs) = piece x ++ markup xs
+
+-- A tag: the place of its `<`, and its name's part of the text by start and length.
+pub data Tag : Type 0 where
+  opens : ℕ → ℕ → ℕ → Tag
+  closes : ℕ → ℕ → ℕ → Tag
+
+-- the tags of a piece that stands at the place p
+abbrev pub tag : ℕ → Piece → List Tag
+tag p (content c) = []
+tag p (comment cs) = []
+tag p (starting n ats s) = opens p (p + 1) (length (name n)) ∷ []
+tag p (empty n ats s) = opens p (p + 1) (length (name n)) ∷ (closes p (p + 1) (length (name n)) ∷ [])
+tag p (ending n s) = closes p (p + 2) (length (name n)) ∷ []
+
+abbrev pub tags : ℕ → List Piece → List Tag
+tags p [] = []
+tags p (x ∷ xs) = tag p x ++ tags (p + length (piece x)) xs
+
+-- the text is right, and has these tags
+abbrev pub Right : List ℕ → List Tag → Type 0
+Right text ts = (xs : List Piece) × (markup xs ≡ text) × (tags 0 xs ≡ ts)
+
+-- it can be continued to a right one
+abbrev pub Viable : List ℕ → Type 0
+Viable text = (rest : List ℕ) × (ts : List Tag) × Right (text ++ rest) ts

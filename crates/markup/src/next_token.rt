@@ -1,0 +1,77 @@
+// Reading a text tag by tag.
+ghost use Rattle.markup.specs.Reading.{reading};
+ghost use Rattle.markup.specs.Tokens.{Gives, remaining};
+ghost use mathlib.Core.Path.{_≡_};
+use crate::fault::ReaderFault;
+use crate::piece::Found;
+use crate::piece::next_tag;
+use crate::piece::text_end;
+use crate::reader::Pending;
+use crate::reader::Reader;
+use crate::token::Token;
+
+impl<'a> Reader<'a> {
+    // A reader at the beginning of a text.
+    pub fn new(text: &'a [u8]) -> Reader<'a>
+        ensures text { λ r. ⌜ now (r .text) ≡ now (text .entry) ⌝ }
+        ensures whole { λ r. ⌜ remaining r ≡ reading (now (text .entry)) ⌝ }
+    {
+        Reader {
+            text,
+            place: 0,
+            pending: Pending::Nothing,
+        }
+    }
+
+    // The next tag, the finish or the fault; the last two come again at later calls.
+    pub fn next(&mut self) -> Result<Token<'a>, ReaderFault>
+        ensures text { λ r. ⌜ now (self .exit) .text .now ≡ now (self .entry) .text .now ⌝ }
+        ensures gives { λ r. ⌜ Gives (now (self .entry)) r (now (self .exit)) ⌝ }
+    {
+        match self.pending {
+            Pending::Close { at, end } => {
+                self.pending = Pending::Nothing;
+                return Ok(Token::Close {
+                    name: &self.text[at + 1..end],
+                    at,
+                });
+            }
+            Pending::Fault(fault) => return Err(fault),
+            Pending::Nothing => {}
+        }
+        match next_tag(self.text, self.place) {
+            Ok(
+                Found::Start {
+                    at,
+                    end,
+                    next,
+                    empty,
+                },
+            ) => {
+                self.place = next;
+                if empty {
+                    self.pending = Pending::Close { at, end };
+                }
+                Ok(Token::Open {
+                    name: &self.text[at + 1..end],
+                    at,
+                })
+            }
+            Ok(Found::End { at, end, next }) => {
+                self.place = next;
+                Ok(Token::Close {
+                    name: &self.text[at + 2..end],
+                    at,
+                })
+            }
+            Ok(_) => {
+                self.place = text_end(self.text);
+                Ok(Token::Finish)
+            }
+            Err(fault) => {
+                self.pending = Pending::Fault(fault);
+                Err(fault)
+            }
+        }
+    }
+}
