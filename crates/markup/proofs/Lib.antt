@@ -8,3 +8,4 @@ pub mod Tracked
 pub mod Refused
 pub mod OneReading
 pub mod Slices
+pub mod Shown

@@ -6,3 +6,4 @@ pub mod Faults
 pub mod Parts
 pub mod Pending
 pub mod Tokens
+pub mod Whole

@@ -5,6 +5,7 @@ ghost use Rattle.markup.specs.Law.{One-reading};
 
 mod attribute;
 mod class;
+mod class_table;
 mod comment;
 mod content;
 pub mod fault;
@@ -14,11 +15,14 @@ pub mod reader;
 mod reference;
 mod tag;
 pub mod token;
+pub mod whole_text;
 mod words;
 
 pub use fault::ReaderFault;
 pub use reader::Reader;
 pub use token::Token;
+pub use whole_text::WholeText;
+pub use whole_text::read_all;
 
 // Each text has one reading by the law, and it is the one that is found byte by byte.
 pub fn law_stands() -> u8

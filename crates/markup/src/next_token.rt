@@ -1,4 +1,5 @@
 // Reading a text tag by tag.
+ghost use Rattle.markup.specs.Law.{Reads};
 ghost use Rattle.markup.specs.Reading.{reading};
 ghost use Rattle.markup.specs.Tokens.{Gives, remaining};
 ghost use mathlib.Core.Path.{_≡_};
@@ -9,6 +10,18 @@ use crate::piece::text_end;
 use crate::reader::Pending;
 use crate::reader::Reader;
 use crate::token::Token;
+
+fn at_start<'a>(text: &'a [u8]) -> Reader<'a>
+    ensures text { λ r. ⌜ now (r .text) ≡ now (text .entry) ⌝ }
+    ensures whole { λ r. ⌜ remaining r ≡ reading (now (text .entry)) ⌝ }
+    ensures law { λ r. ⌜ Reads (now (text .entry)) (remaining r) ⌝ }
+{
+    Reader {
+        text,
+        place: 0,
+        pending: Pending::Nothing,
+    }
+}
 
 impl<'a> Reader<'a> {
     // A reader at the beginning of a text.
