@@ -16,9 +16,13 @@ white b = eqb b 32 || eqb b 9 || eqb b 10 || eqb b 13
 abbrev pub allowed : ℕ → Bool
 allowed b = leb 32 b || white b
 
--- what may stand for itself in text or in a value: no `<`, no `&`, and not the sign that ends it
+-- [^<&]
+abbrev pub data-byte : ℕ → Bool
+data-byte b = allowed b && not (eqb b 60) && not (eqb b 38)
+
+-- what stands for itself in text, which `<` ends, or in a value, which its quote ends: [^<&], [^<&"] or [^<&']
 abbrev pub plain : ℕ → ℕ → Bool
-plain stop b = allowed b && not (eqb b 60) && not (eqb b 38) && not (eqb b stop)
+plain stop b = data-byte b && not (eqb b stop)
 
 -- S? and [3] S
 pub record Space : Type 0 where
