@@ -7,3 +7,4 @@ pub mod Parts
 pub mod Pending
 pub mod Tokens
 pub mod Whole
+pub mod Classes

@@ -57,7 +57,7 @@ fn attribute_end(text: &[u8], from: usize) -> Result<usize, ReaderFault>
 }
 
 // Behind a start tag's name: past its attributes and white space.
-pub fn attributes_end(text: &[u8], from: usize) -> Result<usize, ReaderFault>
+pub(crate) fn attributes_end(text: &[u8], from: usize) -> Result<usize, ReaderFault>
     requires { ⌜ from ≤ length (now text) ⌝ }
     ensures { λ r. ⌜ Shuts (now (text .entry)) from r ⌝ }
 {

@@ -1,7 +1,7 @@
 // The table of classes of bytes.
 
 // A sum for each byte: 1 white space, 2 begins a name, 4 stands in a name, 8 is allowed in a text, 16 is data: allowed, and neither `<` nor `&`.
-pub const CLASS: [u8; 256] = [
+pub(crate) const CLASS: [u8; 256] = [
     0,
     0,
     0,

@@ -2,18 +2,20 @@
 ghost use Prim.Native.Nat.{_<_, _≤_};
 ghost use Rattle.markup.specs.Parts.{Hyphened, Remarked, Way};
 ghost use Rattle.markup.specs.Reading.{in-comment, in-text};
+ghost use lib.Dec.{eqb};
 ghost use lib.ListN.{length};
+ghost use mathlib.Core.Path.{_≡_};
 use crate::class::is_allowed;
 use crate::fault::ReaderFault;
 
 // A byte of a comment, with a hyphen before it if there is one; or the comment's end. Each with the place behind it.
-pub enum CommentPart {
+pub(crate) enum CommentPart {
     Goes(usize),
     Ends(usize),
 }
 
 // Behind `<!--`: past the comment's `-->`.
-pub fn comment_end(text: &[u8], from: usize) -> Result<usize, ReaderFault>
+pub(crate) fn comment_end(text: &[u8], from: usize) -> Result<usize, ReaderFault>
     requires { ⌜ from ≤ length (now text) ⌝ }
     ensures { λ r. ⌜ Way (now (text .entry)) from in-comment in-text r ⌝ }
 {
@@ -59,8 +61,15 @@ fn after_hyphen(text: &[u8], i: usize) -> Result<CommentPart, ReaderFault>
     if i + 1 >= text.len() {
         return Err(ReaderFault::CutOff { length: i + 1 });
     }
-    if text[i + 1] != b'>' {
+    if !ends_comment(text[i + 1]) {
         return Err(ReaderFault::Byte { at: i + 1 });
     }
     Ok(CommentPart::Ends(i + 2))
+}
+
+// Whether the byte behind two hyphens of a comment ends it: no other may stand there.
+fn ends_comment(b: u8) -> bool
+    ensures { λ r. ⌜ r ≡ eqb b 62 ⌝ }
+{
+    b == b'>'
 }

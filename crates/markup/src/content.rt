@@ -7,7 +7,7 @@ use crate::fault::ReaderFault;
 use crate::reference::after_ampersand;
 
 // Past bytes that stand for themselves and references, to a byte that ends them or is refused, or to the text's end.
-pub fn content_end(text: &[u8], from: usize, stop: u8) -> Result<usize, ReaderFault>
+pub(crate) fn content_end(text: &[u8], from: usize, stop: u8) -> Result<usize, ReaderFault>
     requires { ⌜ from ≤ length (now text) ⌝ }
     ensures { λ r. ⌜ Contents (now (text .entry)) from stop r ⌝ }
 {

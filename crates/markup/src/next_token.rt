@@ -11,6 +11,7 @@ use crate::reader::Pending;
 use crate::reader::Reader;
 use crate::token::Token;
 
+// At the beginning all of the text's reading remains, and it is the one that the law fixes.
 fn at_start<'a>(text: &'a [u8]) -> Reader<'a>
     ensures text { λ r. ⌜ now (r .text) ≡ now (text .entry) ⌝ }
     ensures whole { λ r. ⌜ remaining r ≡ reading (now (text .entry)) ⌝ }
@@ -28,12 +29,9 @@ impl<'a> Reader<'a> {
     pub fn new(text: &'a [u8]) -> Reader<'a>
         ensures text { λ r. ⌜ now (r .text) ≡ now (text .entry) ⌝ }
         ensures whole { λ r. ⌜ remaining r ≡ reading (now (text .entry)) ⌝ }
+        ensures law { λ r. ⌜ Reads (now (text .entry)) (remaining r) ⌝ }
     {
-        Reader {
-            text,
-            place: 0,
-            pending: Pending::Nothing,
-        }
+        at_start(text)
     }
 
     // The next tag, the finish or the fault; the last two come again at later calls.

@@ -14,7 +14,7 @@ use crate::words::peek;
 
 // What stands at a place of the text. `end` is the place behind a tag's name, `next` the one behind the piece.
 #[derive(Clone, Copy)]
-pub enum Found {
+pub(crate) enum Found {
     Finish,
     Comment {
         next: usize,
@@ -33,7 +33,7 @@ pub enum Found {
 }
 
 // The text's end: nothing is left to read there.
-pub fn text_end(text: &[u8]) -> usize
+pub(crate) fn text_end(text: &[u8]) -> usize
     ensures { λ r. ⌜ Ended (now (text .entry)) r ⌝ }
 {
     text.len()
@@ -93,7 +93,7 @@ fn next_piece(text: &[u8], from: usize) -> Result<Found, ReaderFault>
 }
 
 // The next tag, or the text's end.
-pub fn next_tag(text: &[u8], from: usize) -> Result<Found, ReaderFault>
+pub(crate) fn next_tag(text: &[u8], from: usize) -> Result<Found, ReaderFault>
     requires { ⌜ from ≤ length (now text) ⌝ }
     ensures { λ r. ⌜ Tagged (now (text .entry)) from r ⌝ }
 {

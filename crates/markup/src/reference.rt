@@ -40,7 +40,7 @@ fn after_ampersand_a(text: &[u8], from: usize, at: usize) -> Result<usize, Reade
 }
 
 // Behind `&`: past the reference.
-pub fn after_ampersand(text: &[u8], from: usize, at: usize) -> Result<usize, ReaderFault>
+pub(crate) fn after_ampersand(text: &[u8], from: usize, at: usize) -> Result<usize, ReaderFault>
     requires { ⌜ from ≤ length (now text) ⌝ }
     ensures { λ r. ⌜ Referred (now (text .entry)) from at (ampersand at) r ⌝ }
 {

@@ -16,7 +16,7 @@ use crate::words::skip_white;
 
 // Where a start tag ends, and whether it is empty.
 #[derive(Clone, Copy)]
-pub struct TagEnd {
+pub(crate) struct TagEnd {
     pub next: usize,
     pub empty: bool,
 }
@@ -61,7 +61,7 @@ fn end_tag_end(text: &[u8], from: usize) -> Result<usize, ReaderFault>
 }
 
 // A start or empty tag, at the first byte of its name.
-pub fn start_tag(text: &[u8], first: usize, at: usize) -> Result<Found, ReaderFault>
+pub(crate) fn start_tag(text: &[u8], first: usize, at: usize) -> Result<Found, ReaderFault>
     requires { ⌜ (first ≡ at + 1) × (first < length (now text)) × (name-start (getD (now text) first 0) ≡ true) ⌝ }
     ensures { λ r. ⌜ Finds (now (text .entry)) first (angle at) r ⌝ }
 {
@@ -76,7 +76,7 @@ pub fn start_tag(text: &[u8], first: usize, at: usize) -> Result<Found, ReaderFa
 }
 
 // An end tag, behind `</`.
-pub fn end_tag(text: &[u8], first: usize, at: usize) -> Result<Found, ReaderFault>
+pub(crate) fn end_tag(text: &[u8], first: usize, at: usize) -> Result<Found, ReaderFault>
     requires { ⌜ (first ≡ at + 2) × (first ≤ length (now text)) ⌝ }
     ensures { λ r. ⌜ Finds (now (text .entry)) first (slash at) r ⌝ }
 {

@@ -22,8 +22,8 @@ pub returns-then-i-text-2 : need.returns-then-i-text-2
 returns-then-i-text-2 c =
     at-on (c .args .text .now) (c .args .i) one-hyphen two-hyphens (omega arith) (grind (arith, tells)) ∙ at-end (c .args .text .now) (c .args .i + 1) two-hyphens (omega arith)
 
-pub returns-then-text-i-ne62 : need.returns-then-text-i-ne62
-returns-then-text-i-ne62 c =
+pub returns-then-not-ends-comment : need.returns-then-not-ends-comment
+returns-then-not-ends-comment c =
     at-on (c .args .text .now) (c .args .i) one-hyphen two-hyphens (omega arith) (grind (arith, tells)) ∙ at-stop (c .args .text .now) (c .args .i + 1) 22 (c .args .i + 1) two-hyphens (omega arith) (grind (arith, tells))
 
 pub returns : need.returns
