@@ -42,10 +42,8 @@ impl<'a> Reader<'a> {
         match self.pending {
             Pending::Close { at, end } => {
                 self.pending = Pending::Nothing;
-                return Ok(Token::Close {
-                    name: &self.text[at + 1..end],
-                    at,
-                });
+                let name = &self.text[at + 1..end];
+                return Ok(Token::Close { name, at });
             }
             Pending::Fault(fault) => return Err(fault),
             Pending::Nothing => {}
@@ -63,17 +61,13 @@ impl<'a> Reader<'a> {
                 if empty {
                     self.pending = Pending::Close { at, end };
                 }
-                Ok(Token::Open {
-                    name: &self.text[at + 1..end],
-                    at,
-                })
+                let name = &self.text[at + 1..end];
+                Ok(Token::Open { name, at })
             }
             Ok(Found::End { at, end, next }) => {
                 self.place = next;
-                Ok(Token::Close {
-                    name: &self.text[at + 2..end],
-                    at,
-                })
+                let name = &self.text[at + 2..end];
+                Ok(Token::Close { name, at })
             }
             Ok(_) => {
                 self.place = text_end(self.text);
