@@ -1,0 +1,6 @@
+use Prim.Native.Nat.{_-_}
+use Rattle.markup_cases.proofs.escapes.unescaped.Given as given
+use lib.ListN.{length}
+
+abbrev pub μ-line : given.MeasureT-line
+μ-line l = length (l .line) - l .i
