@@ -2,6 +2,7 @@
 ghost use Prim.Native.Nat.{_<_, _≤_};
 ghost use Rattle.markup.specs.Parts.{Attributed, Quoted, Shuts, Valued};
 ghost use Rattle.name_bytes.specs.Names.{name-start};
+ghost use lib.Dec.{eqb};
 ghost use lib.ListN.{getD, length};
 ghost use mathlib.Core.Bool.{true};
 ghost use mathlib.Core.Path.{_≡_};
@@ -42,6 +43,12 @@ fn value_end(text: &[u8], from: usize) -> Result<usize, ReaderFault>
     Err(ReaderFault::Byte { at: i })
 }
 
+fn is_equals(b: u8) -> bool
+    ensures { λ r. ⌜ r ≡ eqb b 61 ⌝ }
+{
+    b == b'='
+}
+
 // An attribute, at the first byte of its name: past its value.
 fn attribute_end(text: &[u8], from: usize) -> Result<usize, ReaderFault>
     requires { ⌜ from < length (now text) ⌝ ∗ ⌜ name-start (getD (now text) from 0) ≡ true ⌝ }
@@ -50,7 +57,7 @@ fn attribute_end(text: &[u8], from: usize) -> Result<usize, ReaderFault>
     let end = name_end(text, from + 1)?;
     let i = skip_white(text, end);
     let b = peek(text, i)?;
-    if b != b'=' {
+    if !is_equals(b) {
         return Err(ReaderFault::Byte { at: i });
     }
     value_end(text, i + 1)

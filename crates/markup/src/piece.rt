@@ -2,6 +2,7 @@
 ghost use Prim.Native.Nat.{_+_, _≤_};
 ghost use Rattle.markup.specs.Parts.{Ended, Finds, Tagged};
 ghost use Rattle.markup.specs.Reading.{angle, bang, in-text};
+ghost use lib.Dec.{eqb};
 ghost use lib.ListN.{length};
 ghost use mathlib.Core.Path.{_≡_};
 use crate::class::is_name_start;
@@ -39,17 +40,30 @@ pub(crate) fn text_end(text: &[u8]) -> usize
     text.len()
 }
 
+fn is_hyphen(b: u8) -> bool
+    ensures { λ r. ⌜ r ≡ eqb b 45 ⌝ }
+{
+    b == b'-'
+}
+
+// Whether `<` and the byte begin a processing instruction, one of the forms that no catalogue has.
+fn begins_instruction(b: u8) -> bool
+    ensures { λ r. ⌜ r ≡ eqb b 63 ⌝ }
+{
+    b == b'?'
+}
+
 // Behind `<!`: past the comment.
 fn after_bang(text: &[u8], from: usize, at: usize) -> Result<Found, ReaderFault>
     requires { ⌜ from ≤ length (now text) ⌝ }
     ensures { λ r. ⌜ Finds (now (text .entry)) from (bang at) r ⌝ }
 {
     let b = peek(text, from)?;
-    if b != b'-' {
+    if !is_hyphen(b) {
         return Err(ReaderFault::OtherForm { at });
     }
     let c = peek(text, from + 1)?;
-    if c != b'-' {
+    if !is_hyphen(c) {
         return Err(ReaderFault::OtherForm { at });
     }
     let next = comment_end(text, from + 1 + 1)?;
@@ -71,7 +85,7 @@ fn after_angle(text: &[u8], from: usize, at: usize) -> Result<Found, ReaderFault
     if b == b'!' {
         return after_bang(text, from + 1, at);
     }
-    if b == b'?' {
+    if begins_instruction(b) {
         return Err(ReaderFault::OtherForm { at });
     }
     Err(ReaderFault::Byte { at: from })

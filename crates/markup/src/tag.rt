@@ -3,6 +3,7 @@ ghost use Prim.Native.Nat.{_+_, _<_, _≤_};
 ghost use Rattle.markup.specs.Parts.{EndEnds, Finds, StartEnds};
 ghost use Rattle.markup.specs.Reading.{angle, slash};
 ghost use Rattle.name_bytes.specs.Names.{name-start};
+ghost use lib.Dec.{eqb};
 ghost use lib.ListN.{getD, length};
 ghost use mathlib.Core.Bool.{true};
 ghost use mathlib.Core.Path.{_≡_};
@@ -21,6 +22,12 @@ pub(crate) struct TagEnd {
     pub empty: bool,
 }
 
+fn ends_tag(b: u8) -> bool
+    ensures { λ r. ⌜ r ≡ eqb b 62 ⌝ }
+{
+    b == b'>'
+}
+
 // Behind a start tag's name: past its `>`.
 fn start_tag_end(text: &[u8], from: usize) -> Result<TagEnd, ReaderFault>
     requires { ⌜ from ≤ length (now text) ⌝ }
@@ -28,7 +35,7 @@ fn start_tag_end(text: &[u8], from: usize) -> Result<TagEnd, ReaderFault>
 {
     let q = attributes_end(text, from)?;
     let b = text[q];
-    if b == b'>' {
+    if ends_tag(b) {
         return Ok(TagEnd {
             next: q + 1,
             empty: false,
@@ -38,7 +45,7 @@ fn start_tag_end(text: &[u8], from: usize) -> Result<TagEnd, ReaderFault>
         return Err(ReaderFault::Byte { at: q });
     }
     let c = peek(text, q + 1)?;
-    if c != b'>' {
+    if !ends_tag(c) {
         return Err(ReaderFault::Byte { at: q + 1 });
     }
     Ok(TagEnd {
@@ -54,7 +61,7 @@ fn end_tag_end(text: &[u8], from: usize) -> Result<usize, ReaderFault>
 {
     let i = skip_white(text, from);
     let b = peek(text, i)?;
-    if b != b'>' {
+    if !ends_tag(b) {
         return Err(ReaderFault::Byte { at: i });
     }
     Ok(i + 1)

@@ -2,6 +2,7 @@ use mathlib.Core.Path.{_≡_, refl, sym, ap, _∙_}
 use native.Mathlib.Omega.{arith}
 use Prim.Native.Nat.{ℕ, _+_, _≤_}
 use lib.ListN.{getD}
+use Rattle.std.proofs.shelf.Tests.{eqb-false, eqb-true}
 use Rattle.std.proofs.shelf.Results.{err-from-errBy}
 use Rattle.markup.specs.Reading.{spaced, naming-attribute, attribute-named, valued, equals, next}
 use Rattle.markup.proofs.Slices.{at-on, at-stop, cut-way, way-from, way-after, white-named, refuses-named, begins-attribute, naming-attr, name-ended}
@@ -23,8 +24,8 @@ returns-in-Break-b c =
     λ at k. rw (p .1, p .2) (at-on s a (spaced at k) (naming-attribute at k 1) (c .pre .0) (begins-attribute a at k (getD s a 0) (c .pre .1)) ∙ n .2 (naming-attribute at k) (naming-attr at k) ∙ name-ended s (c .in-Continue-end .end) at k _ (n .3)
     ∙ c .skip-white-i .ensures .same (attribute-named at k) (white-named at k) ∙ cut-way s (c .skip-white-i .result) (attribute-named at k) (valued at k) _ refl (c .in-Break-b .ensures tt))
 
-pub returns-then-b-ne61 : need.returns-then-b-ne61
-returns-then-b-ne61 c =
+pub returns-then-not-is-equals : need.returns-then-not-is-equals
+returns-then-not-is-equals c =
     let s = c .args .text .now in
     let a = c .args .from in
     let i = c .skip-white-i .result in
@@ -32,7 +33,7 @@ returns-then-b-ne61 c =
     let l = c .in-Continue-b .ensures tt .0 in
     λ at k. at-on s a (spaced at k) (naming-attribute at k 1) (c .pre .0) (begins-attribute a at k (getD s a 0) (c .pre .1)) ∙ n .2 (naming-attribute at k) (naming-attr at k) ∙ name-ended s (c .in-Continue-end .end) at k _ (n .3)
     ∙ c .skip-white-i .ensures .same (attribute-named at k) (white-named at k)
-    ∙ at-stop s i 22 i (attribute-named at k) l (refuses-named i at k (getD s i 0) (c .skip-white-i .ensures .ends l) (λ f. c .if-b-ne61 .taken (sym (c .in-Continue-b .ensures tt .1) ∙ f)))
+    ∙ at-stop s i 22 i (attribute-named at k) l (refuses-named i at k (getD s i 0) (c .skip-white-i .ensures .ends l) (λ f. eqb-false (c .in-Continue-b .b) 61 (sym (c .if-not-is-equals .ensures tt)) (sym (c .in-Continue-b .ensures tt .1) ∙ f)))
 
 pub returns : need.returns
 returns c =
@@ -46,4 +47,4 @@ returns c =
     (at-on s a (spaced at k) (naming-attribute at k 1) (c .pre .0) (begins-attribute a at k (getD s a 0) (c .pre .1)) ∙ n .2 (naming-attribute at k) (naming-attr at k) ∙ name-ended s (c .in-Continue-end .end) at k _ (n .3)
     ∙ c .skip-white-i .ensures .same (attribute-named at k) (white-named at k))
     (way-after s i (attribute-named at k) (equals at k) (valued at k) (c .value-end .result)
-    (at-on s i (attribute-named at k) (equals at k) l (ap (λ z. next i (attribute-named at k) z) (c .in-Continue-b .ensures tt .1 ∙ c .if-b-ne61 .left))) (c .value-end .ensures at k))
+    (at-on s i (attribute-named at k) (equals at k) l (ap (λ z. next i (attribute-named at k) z) (c .in-Continue-b .ensures tt .1 ∙ eqb-true (c .in-Continue-b .b) 61 (sym (c .if-not-is-equals .ensures tt))))) (c .value-end .ensures at k))
