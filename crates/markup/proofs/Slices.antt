@@ -1,4 +1,4 @@
--- Reading along a slice by its index.
+-- Reading along a slice by its index: what the byte at a place does to the reading from there, mode by mode.
 use mathlib.Core.Path.{_≡_, refl, sym, ap, subst, _∙_}
 use mathlib.Core.Bool.{Bool, true, false, cond}
 use mathlib.Core.List.{List, [], _∷_, _++_}
@@ -26,6 +26,8 @@ use Rattle.markup.specs.Faults.{fault-ending}
 use Rattle.markup.specs.Parts.{from, Stays, Comments, Goes, Way, Fails, Naming, start-tags, Finds, awaiting-all}
 use Rattle.markup.specs.declared.fault.ReaderFault.the-variants.{CutOff}
 
+-- ## One byte
+
 pub at-byte : (s : List ℕ) (i : ℕ) (m : Mode) (x : Step) → i < length s → next i m (getD s i 0) ≡ x → from s i m ≡ carried x (λ m′. from s (i + 1) m′)
 at-byte s i m x h e =
     ap (λ (z : List ℕ). read i m z) (drop-cons s i 0 h) ∙ ap (λ (z : Step). carried z (λ m′. read (suc i) m′ (drop (suc i) s))) e
@@ -49,7 +51,8 @@ comments-after s i (Ok (RemarkGoes q)) e (l, g) = (omega arith, record { onward 
 comments-after s i (Ok (RemarkEnds q)) e g = record { onward = omega (arith, g .onward); inside = g .inside; same = e ∙ g .same }
 comments-after s i (Err f) e g = e ∙ g
 
--- bytes that are owed
+-- ## References: bytes that have yet to come
+
 awaiting-next : (p at : ℕ) (w : Where) (x : ℕ) (xs : List ℕ) (b : ℕ) → next p (awaiting at w x xs) b ≡ cond (eqb b x) (on (awaiting-all at w xs)) (stop 25 at)
 awaiting-next p at w x [] b = refl
 awaiting-next p at w x (y ∷ ys) b = refl
@@ -75,7 +78,8 @@ awaited-cut s i at w rest j h k = ap (λ (m : Mode). from s i m) (awaited-at at 
 pub awaited-done : (s : List ℕ) (i at : ℕ) (w : Where) (rest : List ℕ) (j : ℕ) → length rest ≤ j → from s i (awaiting-all at w (drop j rest)) ≡ from s i (in-content w)
 awaited-done s i at w rest j h = ap (λ (z : List ℕ). from s i (awaiting-all at w z)) (drop-all j rest h)
 
--- a way with one byte before it
+-- ## Ways with more before them
+
 pub way-after : (s : List ℕ) (i : ℕ) (m m′ m″ : Mode) (r : Result ℕ ReaderFault) → from s i m ≡ from s (i + 1) m′ → Way s (i + 1) m′ m″ r → Way s i m m″ r
 way-after s i m m′ m″ (Ok q) e g = record { onward = omega (arith, g .onward); inside = g .inside; same = e ∙ g .same }
 way-after s i m m′ m″ (Err f) e g = e ∙ g
@@ -86,10 +90,11 @@ cut-way s i m m′ f o (l, e) = at-end s i m l ∙ ap (λ (z : Ending). record {
 pub plain-on : (p : ℕ) (w : Where) (sign b : ℕ) → stop-of w ≡ sign → plain sign b ≡ true → next p (in-content w) b ≡ on (in-content w)
 plain-on p w sign b e h = cond-true (plain (stop-of w) b) _ _ (ap (λ z. plain z b) e ∙ h)
 
--- a way with an equal reading before it
 pub way-from : (s : List ℕ) (p i : ℕ) (m m′ m″ : Mode) (r : Result ℕ ReaderFault) → p ≤ i → from s p m ≡ from s i m′ → Way s i m′ m″ r → Way s p m m″ r
 way-from s p i m m′ m″ (Ok q) l e g = record { onward = omega (arith, g .onward); inside = g .inside; same = e ∙ g .same }
 way-from s p i m m′ m″ (Err f) l e g = e ∙ g
+
+-- ## Values and attributes
 
 pub shuts-value : (p at k : ℕ) (q : Quote) (b : ℕ) → b ≡ sign q → next p (in-content (value at k q)) b ≡ on (valued at k)
 shuts-value p at k single b e = ap (λ z. next p (in-content (value at k single)) z) e
@@ -158,7 +163,8 @@ shut-spaced s i at k b l e w n =
 pub space-here : (s : List ℕ) (i at k b : ℕ) → i < length s → getD s i 0 ≡ b → white b ≡ true → from s i (valued at k) ≡ from s (i + 1) (spaced at k)
 space-here s i at k b l e w = at-on s i (valued at k) (spaced at k) l (cond-true (white (getD s i 0)) _ _ (ap white e ∙ w))
 
--- the ends of tags
+-- ## The ends of tags
+
 pub shut-gives : (s : List ℕ) (q at k : ℕ) → getD s q 0 ≡ 62 → carried (shut at k q (getD s q 0)) (λ m. from s (q + 1) m) ≡ giving (start-tags false at k) (from s (q + 1) in-text)
 shut-gives s q at k e = ap (λ z. carried (shut at k q z) (λ m. from s (q + 1) m)) e
 
@@ -189,7 +195,8 @@ end-named s i at k h = same-step s i (naming-end at k) (end-spaced at k) refl (�
 pub begins-start : (p at b : ℕ) → name-start b ≡ true → next p (angle at) b ≡ on (naming at 1)
 begins-start p at b h = cond-true (name-start b) _ _ h
 
--- what is found, with an equal reading before it
+-- ## What is found, with an equal reading before it
+
 pub finds-from : (s : List ℕ) (p i : ℕ) (m m′ : Mode) (r : Result Found ReaderFault) → p ≤ i → from s p m ≡ from s i m′ → Finds s i m′ r → Finds s p m r
 finds-from s p i m m′ (Ok Finish) l e g = e ∙ g
 finds-from s p i m m′ (Ok (Comment q)) l e (a, b, g) = (omega arith, b, e ∙ g)

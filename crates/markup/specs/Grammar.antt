@@ -1,4 +1,6 @@
--- The accepted markup, a part of XML 1.0 over bytes. Numbers in brackets are those of XML's productions.
+-- The right texts, a part of XML 1.0 over bytes, as trees and their spelling. Each production of XML 1.0 that is taken over
+-- stands quoted with its number. Wider than XML: a text is a row of pieces with no outermost one and no nesting, bytes from 128
+-- up are not looked at, `]]>` may stand in text, and attribute names are not compared.
 use mathlib.Core.Path.{_≡_}
 use mathlib.Core.Bool.{Bool, true, false, _&&_, _||_, not}
 use mathlib.Core.List.{List, [], _∷_, _++_}
@@ -8,11 +10,13 @@ use Rattle.name_bytes.specs.Names.{all, right-name}
 use lib.ListN.{length}
 use lib.Chars.{codes}
 
--- [3] white space
+-- ## Bytes
+
+-- [3] S ::= (#x20 | #x9 | #xD | #xA)+
 abbrev pub white : ℕ → Bool
 white b = eqb b 32 || eqb b 9 || eqb b 10 || eqb b 13
 
--- [2] what may stand anywhere: bytes from 128 up are not looked at
+-- [2] Char ::= #x9 | #xA | #xD | [#x20-..], with every byte from 128 up
 abbrev pub allowed : ℕ → Bool
 allowed b = leb 32 b || white b
 
@@ -24,12 +28,14 @@ data-byte b = allowed b && not (eqb b 60) && not (eqb b 38)
 abbrev pub plain : ℕ → ℕ → Bool
 plain stop b = data-byte b && not (eqb b stop)
 
--- S? and [3] S
+-- ## Space and names
+
+-- S?
 pub record Space : Type 0 where
   pub bytes : List ℕ
   pub blank : all white bytes ≡ true
 
--- [5] a right name, by its first byte and the others
+-- [5] Name ::= NameStartChar (NameChar)*, of at most 64 bytes, by its first byte and the others
 pub record Name : Type 0 where
   pub first : ℕ
   pub others : List ℕ
@@ -38,7 +44,9 @@ pub record Name : Type 0 where
 abbrev pub name : Name → List ℕ
 name n = n .first ∷ n .others
 
--- [68] the five that need no declaration
+-- ## References, text and values
+
+-- [68] EntityRef ::= '&' Name ';' for the five names that need no declaration
 pub data Reference : Type 0 where
   amp : Reference
   lt : Reference
@@ -53,7 +61,7 @@ reference gt = codes "&gt;"
 reference quot = codes "&quot;"
 reference apos = codes "&apos;"
 
--- [14] and what a value has between its quotes: a byte for itself, or a reference
+-- one of [14] CharData ::= [^<&]* and of references, or of ([^<&"] | Reference)* in a value
 pub data Char (stop : ℕ) : Type 0 where
   itself : (b : ℕ) → plain stop b ≡ true → Char stop
   referred : Reference → Char stop
@@ -66,7 +74,7 @@ abbrev pub chars : {stop : ℕ} → List (Char stop) → List ℕ
 chars [] = []
 chars (c ∷ cs) = char c ++ chars cs
 
--- [10] a value and its quotes
+-- the two signs of [10] AttValue ::= '"' ([^<&"] | Reference)* '"' | "'" ([^<&'] | Reference)* "'"
 pub data Quote : Type 0 where
   single : Quote
   double : Quote
@@ -75,7 +83,9 @@ abbrev pub sign : Quote → ℕ
 sign single = 39
 sign double = 34
 
--- [41] with the white space before it, up to its value; [25] `=` and the white space around it
+-- ## Attributes
+
+-- S Name Eq: an attribute with the white space before it, up to its value. [25] Eq ::= S? '=' S?
 pub record Opening : Type 0 where
   pub apart : ℕ
   pub is-white : white apart ≡ true
@@ -87,6 +97,7 @@ pub record Opening : Type 0 where
 abbrev pub opening : Opening → List ℕ
 opening o = o .apart ∷ (o .space .bytes ++ (name (o .named) ++ (o .before .bytes ++ (61 ∷ o .behind .bytes))))
 
+-- S [41] Attribute ::= Name Eq AttValue
 pub record Attribute : Type 0 where
   pub opened : Opening
   pub quote : Quote
@@ -95,11 +106,14 @@ pub record Attribute : Type 0 where
 abbrev pub attribute : Attribute → List ℕ
 attribute a = opening (a .opened) ++ (sign (a .quote) ∷ (chars (a .value) ++ (sign (a .quote) ∷ [])))
 
+-- (S Attribute)*
 abbrev pub attributes : List Attribute → List ℕ
 attributes [] = []
 attributes (a ∷ ats) = attribute a ++ attributes ats
 
--- [15] what a comment has inside: a byte that is no `-`, perhaps with a `-` before it
+-- ## Pieces
+
+-- one of the inside of [15] Comment ::= '<!--' ((Char - '-') | ('-' (Char - '-')))* '-->'
 pub data Remark : Type 0 where
   byte : (b : ℕ) → eqb b 45 ≡ false → allowed b ≡ true → Remark
   hyphen : (b : ℕ) → eqb b 45 ≡ false → allowed b ≡ true → Remark
@@ -112,15 +126,19 @@ abbrev pub remarks : List Remark → List ℕ
 remarks [] = []
 remarks (c ∷ cs) = remark c ++ remarks cs
 
--- [43] what text is made of: here tags need not nest
+-- one of [43] content, where an element is its start tag and its end tag, which need not fit one another
 pub data Piece : Type 0 where
+  -- a byte of text or a reference
   content : Char 60 → Piece
+  -- [15]
   comment : List Remark → Piece
+  -- [40] STag ::= '<' Name (S Attribute)* S? '>'
   starting : Name → List Attribute → Space → Piece
+  -- [44] EmptyElemTag ::= '<' Name (S Attribute)* S? '/>'
   empty : Name → List Attribute → Space → Piece
+  -- [42] ETag ::= '</' Name S? '>'
   ending : Name → Space → Piece
 
--- [14] [15] [40] [44] [42]
 abbrev pub piece : Piece → List ℕ
 piece (content c) = char c
 piece (comment cs) = codes "<!--" ++ (remarks cs ++ codes "-->")
@@ -128,11 +146,14 @@ piece (starting n ats s) = 60 ∷ (name n ++ (attributes ats ++ (s .bytes ++ cod
 piece (empty n ats s) = 60 ∷ (name n ++ (attributes ats ++ (s .bytes ++ codes "/>")))
 piece (ending n s) = 60 ∷ (47 ∷ (name n ++ (s .bytes ++ codes ">")))
 
+-- a text: any row of pieces, even none
 abbrev pub markup : List Piece → List ℕ
 markup [] = []
 markup (x ∷ xs) = piece x ++ markup xs
 
--- A tag: the place of its `<`, and its name's part of the text by start and length.
+-- ## Tags, right texts and viable ones
+
+-- A tag: the place of its `<`, and the part of the text that is its name, by where it starts and how long it is.
 pub data Tag : Type 0 where
   opens : ℕ → ℕ → ℕ → Tag
   closes : ℕ → ℕ → ℕ → Tag
@@ -149,10 +170,10 @@ abbrev pub tags : ℕ → List Piece → List Tag
 tags p [] = []
 tags p (x ∷ xs) = tag p x ++ tags (p + length (piece x)) xs
 
--- the text is right, and has these tags
+-- the text is right: it is spelled by some row of pieces; and its tags are those of the row
 abbrev pub Right : List ℕ → List Tag → Type 0
 Right text ts = (xs : List Piece) × (markup xs ≡ text) × (tags 0 xs ≡ ts)
 
--- it can be continued to a right one
+-- something can be written behind the text that makes it right
 abbrev pub Viable : List ℕ → Type 0
 Viable text = (rest : List ℕ) × (ts : List Tag) × Right (text ++ rest) ts

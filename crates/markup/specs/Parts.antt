@@ -1,4 +1,5 @@
--- What the parts of the reader owe, as equations of the reading.
+-- What each function of the reader owes, as equations of the reading (specs/Reading): from a place and a mode it comes to another
+-- place and mode, or ends with a fault.
 use mathlib.Core.Path.{_≡_}
 use mathlib.Core.Bool.{Bool, true, false}
 use mathlib.Core.List.{List, [], _∷_}
@@ -14,7 +15,7 @@ use Rattle.markup.specs.declared.piece.Found.{Found}
 use Rattle.markup.specs.declared.piece.Found.the-variants.{Finish, Comment, Start, End}
 use Rattle.markup.specs.declared.comment.CommentPart.{CommentPart}
 use Rattle.markup.specs.declared.comment.CommentPart.the-variants.{Goes as RemarkGoes, Ends as RemarkEnds}
-use Rattle.name_bytes.specs.Names.{name-byte}
+use Rattle.name_bytes.specs.Names.{name-byte, name-limit}
 use Rattle.markup.specs.Grammar.{white, plain, Quote, sign, Tag, opens, closes}
 use Rattle.markup.specs.Reading.{Where, text, stop-of, Mode, in-content, in-comment, one-hyphen, awaiting, value, equals, valued, spaced, shut, carried, end-spaced, giving, Step, stop, on, next, finish, failed, Ending, Reading, read, reading}
 use Rattle.markup.specs.Faults.{fault-ending}
@@ -68,8 +69,8 @@ Peeked s i (Err f) = (length s ≤ i) × (f ≡ CutOff i)
 -- modes that count the bytes of a name
 abbrev pub Naming : (ℕ → Mode) → Type 0
 Naming f =
-    ((p k b : ℕ) → name-byte b ≡ true → k < 64 → next p (f k) b ≡ on (f (k + 1)))
-    × ((p k b : ℕ) → name-byte b ≡ true → 64 ≤ k → next p (f k) b ≡ stop 24 p)
+    ((p k b : ℕ) → name-byte b ≡ true → k < name-limit → next p (f k) b ≡ on (f (k + 1)))
+    × ((p k b : ℕ) → name-byte b ≡ true → name-limit ≤ k → next p (f k) b ≡ stop 24 p)
 
 -- behind the first byte of a name: to the name's end
 abbrev pub Named : List ℕ → ℕ → Result ℕ ReaderFault → Type 0

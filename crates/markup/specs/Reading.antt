@@ -4,7 +4,7 @@ use mathlib.Core.Bool.{Bool, true, false, cond}
 use mathlib.Core.List.{List, [], _∷_, _++_}
 use Prim.Native.Nat.{ℕ, suc, _+_}
 use lib.Dec.{ltb, eqb}
-use Rattle.name_bytes.specs.Names.{name-start, name-byte}
+use Rattle.name_bytes.specs.Names.{name-start, name-byte, name-limit}
 use Rattle.markup.specs.Grammar.{white, allowed, plain, Quote, single, double, sign, Tag, opens, closes}
 
 -- In text, or in a value of the start tag at a place with a name of so many bytes.
@@ -12,21 +12,29 @@ pub data Where : Type 0 where
   text : Where
   value : ℕ → ℕ → Quote → Where
 
+-- the byte that ends it
 abbrev pub stop-of : Where → ℕ
 stop-of text = 60
 stop-of (value at k q) = sign q
 
+-- Where a reader stands in a text. The first number of a mode is the place of the `&` or of the tag's `<`; in a tag with a name
+-- the next is how many bytes the name has.
 pub data Mode : Type 0 where
   in-content : Where → Mode
+  -- behind `&`, behind `&a`, and where a byte and then others have yet to come of a reference
   ampersand : ℕ → Where → Mode
   ampersand-a : ℕ → Where → Mode
   awaiting : ℕ → Where → ℕ → List ℕ → Mode
+  -- behind `<`, `<!`, `<!-`
   angle : ℕ → Mode
   bang : ℕ → Mode
   bang-hyphen : ℕ → Mode
+  -- in a comment, behind one hyphen of it, behind two
   in-comment : Mode
   one-hyphen : Mode
   two-hyphens : Mode
+  -- in a start tag: in its name, behind white space, in an attribute's name (its bytes last), behind that name, behind `=`,
+  -- behind a value, behind `/`
   naming : ℕ → ℕ → Mode
   spaced : ℕ → ℕ → Mode
   naming-attribute : ℕ → ℕ → ℕ → Mode
@@ -34,10 +42,12 @@ pub data Mode : Type 0 where
   equals : ℕ → ℕ → Mode
   valued : ℕ → ℕ → Mode
   slashed : ℕ → ℕ → Mode
+  -- in an end tag: behind `</`, in its name, behind white space
   slash : ℕ → Mode
   naming-end : ℕ → ℕ → Mode
   end-spaced : ℕ → ℕ → Mode
 
+-- What a byte does: the reading goes on in a mode, with tags that are now given; or it stops, with a number and a place.
 pub data Step : Type 0 where
   go : Mode → List Tag → Step
   stop : ℕ → ℕ → Step
@@ -83,20 +93,20 @@ next p (bang-hyphen at) b = cond (eqb b 45) (on in-comment) (stop 23 at)
 next p in-comment b = cond (eqb b 45) (on one-hyphen) (cond (allowed b) (on in-comment) (stop 22 p))
 next p one-hyphen b = cond (eqb b 45) (on two-hyphens) (cond (allowed b) (on in-comment) (stop 22 p))
 next p two-hyphens b = cond (eqb b 62) (on in-text) (stop 22 p)
-next p (naming at k) b = cond (name-byte b) (cond (ltb k 64) (on (naming at (suc k))) (stop 24 p)) (behind at k p b)
+next p (naming at k) b = cond (name-byte b) (cond (ltb k name-limit) (on (naming at (suc k))) (stop 24 p)) (behind at k p b)
 next p (spaced at k) b = cond (white b) (on (spaced at k)) (cond (name-start b) (on (naming-attribute at k 1)) (shut at k p b))
 next p (naming-attribute at k j) b =
-    cond (name-byte b) (cond (ltb j 64) (on (naming-attribute at k (suc j))) (stop 24 p)) (cond (white b) (on (attribute-named at k)) (equal at k p b))
+    cond (name-byte b) (cond (ltb j name-limit) (on (naming-attribute at k (suc j))) (stop 24 p)) (cond (white b) (on (attribute-named at k)) (equal at k p b))
 next p (attribute-named at k) b = cond (white b) (on (attribute-named at k)) (equal at k p b)
 next p (equals at k) b =
     cond (white b) (on (equals at k)) (cond (eqb b 34) (on (in-content (value at k double))) (cond (eqb b 39) (on (in-content (value at k single))) (stop 22 p)))
 next p (valued at k) b = behind at k p b
 next p (slashed at k) b = cond (eqb b 62) (go in-text (opens at (at + 1) k ∷ (closes at (at + 1) k ∷ []))) (stop 22 p)
 next p (slash at) b = cond (name-start b) (on (naming-end at 1)) (stop 22 p)
-next p (naming-end at k) b = cond (name-byte b) (cond (ltb k 64) (on (naming-end at (suc k))) (stop 24 p)) (end-shut at k p b)
+next p (naming-end at k) b = cond (name-byte b) (cond (ltb k name-limit) (on (naming-end at (suc k))) (stop 24 p)) (end-shut at k p b)
 next p (end-spaced at k) b = end-shut at k p b
 
--- how a reading ends
+-- How a reading ends: by the finish, or by a fault with its number and place.
 pub data Ending : Type 0 where
   finish : Ending
   failed : ℕ → ℕ → Ending
@@ -105,9 +115,11 @@ pub record Reading : Type 0 where
   pub given : List Tag
   pub ended : Ending
 
+-- tags, and then a reading
 abbrev pub giving : List Tag → Reading → Reading
 giving ts r = record { given = ts ++ r .given; ended = r .ended }
 
+-- where the text ends at the place p: right only in text
 abbrev pub over : Mode → ℕ → Ending
 over (in-content text) p = finish
 over (in-content (value at k q)) p = failed 21 p
@@ -140,5 +152,6 @@ abbrev pub read : ℕ → Mode → List ℕ → Reading
 read p m [] = record { given = []; ended = over m p }
 read p m (b ∷ bs) = carried (next p m b) (λ m′. read (suc p) m′ bs)
 
+-- a whole text
 abbrev pub reading : List ℕ → Reading
 reading s = read 0 (in-content text) s

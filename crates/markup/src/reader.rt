@@ -12,7 +12,7 @@ pub(crate) enum Pending {
     Nothing,
     // the close of an empty tag: the place of its `<`, and the place behind its name
     Close { at: usize, end: usize },
-    // a fault that was met: no byte is read twice for it
+    // a fault that was met: nothing is read again for it
     Fault(ReaderFault),
 }
 

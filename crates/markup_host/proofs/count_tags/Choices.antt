@@ -1,3 +1,4 @@
+-- The loop of `count_tags` in src/lib.rt: what it keeps, and what falls with each turn.
 use Prim.Native.Nat.{_+_, _≤_}
 use Rattle.markup.specs.Reading.{reading}
 use Rattle.markup.specs.Tokens.{remaining}

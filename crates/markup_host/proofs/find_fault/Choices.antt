@@ -1,3 +1,4 @@
+-- The loop of `find_fault` in src/lib.rt: what it keeps, and what falls with each turn.
 use Rattle.markup.specs.Reading.{Reading, reading}
 use Rattle.markup.specs.Tokens.{remaining}
 use Rattle.markup_host.proofs.find_fault.Given as given

@@ -1,3 +1,4 @@
+-- What is left to show of `add_count` in src/lines.rt.
 use Rattle.catalogue_check.proofs.Written.{added}
 use Rattle.catalogue_check.proofs.lines.add_count.Needs as need
 use Rattle.std.specs.Of.Vec.{vec-items}

@@ -1,3 +1,4 @@
+-- What is left to show of `add_indent` in src/lines.rt.
 use Rattle.catalogue_check.proofs.Written.{added, indent-more}
 use Rattle.catalogue_check.proofs.lines.add_indent.Needs as need
 use Rattle.std.specs.Of.Vec.{vec-items}

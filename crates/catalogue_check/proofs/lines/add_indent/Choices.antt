@@ -1,3 +1,4 @@
+-- The loop of `add_indent` in src/lines.rt: what it keeps, and what falls with each turn.
 use Rattle.catalogue_check.proofs.lines.add_indent.Given as given
 use Rattle.catalogue_check.specs.Lines.{indent}
 use Rattle.std.specs.Of.Vec.{vec-items}

@@ -1,3 +1,4 @@
+-- What is left to show of `add_line` in src/lines.rt.
 use Rattle.catalogue_check.proofs.Written.{added}
 use Rattle.catalogue_check.proofs.lines.add_line.Needs as need
 use Rattle.catalogue_check.specs.Lines.{indent}

@@ -1,3 +1,4 @@
+-- What is left to show of `add_refusal` in src/lines.rt.
 use Rattle.catalogue_check.proofs.Written.{added}
 use Rattle.catalogue_check.proofs.lines.add_refusal.Needs as need
 use Rattle.markup.specs.Faults.{fault-number, fault-place}

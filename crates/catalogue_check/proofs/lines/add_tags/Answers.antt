@@ -1,3 +1,4 @@
+-- What is left to show of `add_tags` in src/lines.rt.
 use Prim.Native.Nat.{ℕ, _+_, _≤_}
 use Rattle.catalogue_check.proofs.Written.{depth-bound, lines-added, lines-done}
 use Rattle.catalogue_check.proofs.lines.add_tags.Needs as need

@@ -1,3 +1,4 @@
+-- The loop of `add_tags` in src/lines.rt: what it keeps, and what falls with each turn.
 use Prim.Native.Nat.{_≤_}
 use Rattle.catalogue_check.proofs.lines.add_tags.Given as given
 use Rattle.catalogue_check.specs.Lines.{token-lines}

@@ -1,3 +1,4 @@
+-- What is left to show of `print_text` in src/report.rt.
 use Prim.Native.Nat.{ℕ}
 use Rattle.catalogue_check.proofs.Written.{refuses-some, report-shown}
 use Rattle.catalogue_check.proofs.report.print_text.Needs as need

@@ -1,3 +1,4 @@
+-- What is left to show of `value_end` in src/attribute.rt.
 use mathlib.Core.Path.{_≡_, refl, sym, ap, _∙_}
 use native.Mathlib.Omega.{arith}
 use lib.ListN.{getD}

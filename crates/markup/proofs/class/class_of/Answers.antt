@@ -1,3 +1,4 @@
+-- What is left to show of `class_of` in src/class.rt.
 use Prim.Native.Nat.{ℕ}
 use Rattle.markup.proofs.Table.{class-table, each, same, same-is}
 use Rattle.markup.proofs.class.class_of.Needs as need

@@ -1,3 +1,4 @@
+-- What is left to show of `comment_end` in src/comment.rt.
 use mathlib.Core.Path.{_∙_}
 use native.Mathlib.Omega.{arith}
 use Rattle.markup.specs.Reading.{in-comment}

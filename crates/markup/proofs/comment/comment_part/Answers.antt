@@ -1,3 +1,4 @@
+-- What is left to show of `comment_part` in src/comment.rt.
 use mathlib.Core.Path.{_≡_, sym, _∙_}
 use native.Mathlib.Omega.{arith}
 use Prim.Native.Nat.{_+_}

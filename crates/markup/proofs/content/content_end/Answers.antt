@@ -1,3 +1,4 @@
+-- What is left to show of `content_end` in src/content.rt.
 use mathlib.Core.Path.{_≡_, refl, sym, ap, _∙_}
 use native.Mathlib.Omega.{arith}
 use Rattle.std.proofs.shelf.Results.{err-from-errBy}

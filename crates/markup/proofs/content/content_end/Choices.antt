@@ -1,3 +1,4 @@
+-- The loop of `content_end` in src/content.rt: what it keeps, and what falls with each turn.
 use Prim.Native.Nat.{_-_, _≤_}
 use mathlib.Core.Path.{_≡_}
 use lib.ListN.{length}

@@ -1,3 +1,4 @@
+-- What is left to show of `at_start` in src/next_token.rt.
 use Rattle.markup.proofs.OneReading.{reads}
 use Rattle.markup.proofs.next_token.at_start.Needs as need
 use mathlib.Core.Path.{refl}

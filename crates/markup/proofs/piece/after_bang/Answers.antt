@@ -1,3 +1,4 @@
+-- What is left to show of `after_bang` in src/piece.rt.
 use mathlib.Core.Path.{_≡_, refl, sym, ap, _∙_}
 use native.Mathlib.Omega.{arith}
 use Prim.Native.Nat.{ℕ, _+_, _-_}

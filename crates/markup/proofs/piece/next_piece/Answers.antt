@@ -1,3 +1,4 @@
+-- What is left to show of `next_piece` in src/piece.rt.
 use mathlib.Core.Path.{_≡_, refl, sym, ap, _∙_}
 use native.Mathlib.Omega.{arith}
 use Prim.Native.Nat.{ℕ, _+_, _-_, _<_}

@@ -1,3 +1,4 @@
+-- What is left to show of `text_end` in src/piece.rt.
 use Prim.Native.Nat.{_≤_}
 use Rattle.markup.proofs.Slices.{at-end}
 use Rattle.markup.proofs.piece.text_end.Needs as need

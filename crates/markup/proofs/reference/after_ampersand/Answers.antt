@@ -1,3 +1,4 @@
+-- What is left to show of `after_ampersand` in src/reference.rt.
 use mathlib.Core.Path.{_≡_, refl, sym, ap, _∙_}
 use mathlib.Core.List.{[], _∷_}
 use native.Mathlib.Omega.{arith}

@@ -1,3 +1,4 @@
+-- What is left to show of `reference_rest` in src/reference.rt.
 use mathlib.Core.Path.{_≡_, sym, ap, _∙_}
 use native.Mathlib.Omega.{arith}
 use Rattle.markup.proofs.Slices.{awaited-on, awaited-stop, awaited-cut, awaited-done}

@@ -1,3 +1,4 @@
+-- What is left to show of `end_tag` in src/tag.rt.
 use mathlib.Core.Path.{_≡_, refl, sym, ap, _∙_}
 use mathlib.Core.Bool.{true, false}
 use native.Mathlib.Omega.{arith}

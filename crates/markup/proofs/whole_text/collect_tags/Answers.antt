@@ -1,3 +1,4 @@
+-- What is left to show of `collect_tags` in src/whole_text.rt.
 use Rattle.markup.proofs.Shown.{all-shown-more, gives-finish, gives-tag, giving-more, reads-given}
 use Rattle.markup.proofs.whole_text.collect_tags.Needs as need
 use Rattle.markup.specs.Grammar.{Tag}

@@ -1,3 +1,4 @@
+-- The loop of `collect_tags` in src/whole_text.rt: what it keeps, and what falls with each turn.
 use Rattle.markup.proofs.whole_text.collect_tags.Given as given
 use Rattle.markup.specs.Grammar.{Tag}
 use Rattle.markup.specs.Reading.{giving, reading}

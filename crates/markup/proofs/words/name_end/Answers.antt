@@ -1,3 +1,4 @@
+-- What is left to show of `name_end` in src/words.rt.
 use mathlib.Core.Path.{_≡_, sym, ap, _∙_}
 use Prim.Native.Nat.{ℕ, _-_, _+_, _≤_}
 use native.Mathlib.Omega.{arith}

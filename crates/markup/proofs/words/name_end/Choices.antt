@@ -1,3 +1,4 @@
+-- The loop of `name_end` in src/words.rt: what it keeps, and what falls with each turn.
 use Prim.Native.Nat.{ℕ, _-_, _+_, _≤_}
 use mathlib.Core.Path.{_≡_}
 use lib.ListN.{length}

@@ -1,3 +1,4 @@
+-- What is left to show of `skip_white` in src/words.rt.
 use mathlib.Core.Path.{sym}
 use native.Mathlib.Omega.{arith}
 use Rattle.markup.specs.Grammar.{white}

@@ -1,3 +1,4 @@
+-- The loop of `unescaped` in src/escapes.rt: what it keeps, and what falls with each turn.
 use Prim.Native.Nat.{_-_}
 use Rattle.markup_cases.proofs.escapes.unescaped.Given as given
 use lib.ListN.{length}
