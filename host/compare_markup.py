@@ -1,5 +1,6 @@
 """Compares the markup reader with expat (acceptance and number of tags) and with the second judge (number, place, tags) on
-seeded texts. The first argument is the driver, built by compare_markup.sh. Exit status 1 where they disagree.
+seeded texts, and what the program catalogue_check prints with expat's tags, names and places. The arguments are the driver, built by
+compare_markup.sh, and the program. Exit status 1 where they disagree.
 
 Each text for expat is wrapped in one outermost tag. Known differences, which are left out and counted:
   nesting      the reader does not compare the names of opens and closes: such a text must be refused by expat
@@ -140,12 +141,58 @@ def difference(text, number, place):
     return None
 
 
-def main(driver):
+def expat_lines(text):
+    """What catalogue_check prints of a right text, by expat's tags and byte offsets; at the close of an empty tag
+    expat stands behind the tag, the reader at its `<`."""
+    lines, places = [], []
+    head = b'<outermost>'
+    whole = head + text + b'</outermost>'
+    parser = expat.ParserCreate('iso-8859-1')
+
+    def start(name, _):
+        places.append(parser.CurrentByteIndex)
+        lines.append((len(places) - 2, parser.CurrentByteIndex, 'open', name))
+
+    def end(name):
+        at = parser.CurrentByteIndex
+        opened = places.pop()
+        empty = lines[-1][1:3] == (opened, 'open') and whole[at - 2:at] == b'/>'
+        lines.append((len(places) - 1, opened if empty else at, 'close', name))
+    parser.StartElementHandler = start
+    parser.EndElementHandler = end
+    parser.Parse(whole, True)
+    tags = lines[1:-1]
+    return ''.join('  ' * d + '%d %s %s\n' % (at - len(head), kind, name) for d, at, kind, name in tags) + 'tags %d\n' % len(tags)
+
+
+def compare_program(program, texts, answered):
+    """Whole outputs for right texts, last lines for refused ones, and the exit status."""
+    wrong = right = 0
+    for text, (number, place, _) in zip(texts, answered):
+        if number == 0 and (difference(text, number, place) is not None or not nested(text)):
+            continue
+        run = subprocess.run([program], input=text, capture_output=True)
+        found = run.stdout.decode()
+        if number == 0:
+            right += 1
+            same = found == expat_lines(text) and run.returncode == 0
+        else:
+            same = found.splitlines()[-1] == 'refused %d at %d' % (number, place) and run.returncode == 1
+        if not same:
+            wrong += 1
+            if wrong <= 10:
+                print('DIFFERENT output:', text, found, run.returncode)
+    print('catalogue_check: %d texts, %d of them right' % (len(texts), right))
+    return wrong
+
+
+def main(driver, program):
     wrong = 0
     rnd = random.Random(20000)
     texts = [changed(rnd, content(rnd, 0)).encode('latin-1') for _ in range(20000)]
     left_out, both, neither = {}, 0, 0
-    for text, (number, place, count) in zip(texts, answers(driver, texts)):
+    answered = answers(driver, texts)
+    for text, (number, place, count) in zip(texts, answered):
         why = difference(text, number, place)
         if why is not None:
             left_out[why] = left_out.get(why, 0) + 1
@@ -165,6 +212,7 @@ def main(driver):
             neither += 1
     print('expat: %d texts, %d accepted by both, %d by neither; known differences: %s'
           % (len(texts), both, neither, ', '.join('%s %d' % (k, v) for k, v in sorted(left_out.items()))))
+    wrong += compare_program(program, texts[:600], answered[:600])
     texts = [(fragments(rnd) if i % 2 else changed(rnd, content(rnd, 2))).encode('latin-1') for i in range(4000)]
     numbers = {}
     for text, found in zip(texts, answers(driver, texts)):
@@ -180,4 +228,4 @@ def main(driver):
 
 
 if __name__ == '__main__':
-    sys.exit(main(sys.argv[1]))
+    sys.exit(main(sys.argv[1], sys.argv[2]))
