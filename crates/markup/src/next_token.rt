@@ -43,11 +43,19 @@ impl<'a> Reader<'a> {
             Pending::Close { at, end } => {
                 self.pending = Pending::Nothing;
                 let name = &self.text[at + 1..end];
-                return Ok(Token::Close { name, at });
+                Ok(Token::Close { name, at })
             }
-            Pending::Fault(fault) => return Err(fault),
-            Pending::Nothing => {}
+            Pending::Fault(fault) => Err(fault),
+            Pending::Nothing => self.read_on(),
         }
+    }
+
+    // The next tag, the finish or the fault, where nothing is pending.
+    fn read_on(&mut self) -> Result<Token<'a>, ReaderFault>
+        requires { ⌜ now self .pending ≡ Pending.Nothing ⌝ }
+        ensures text { λ r. ⌜ now (self .exit) .text .now ≡ now (self .entry) .text .now ⌝ }
+        ensures gives { λ r. ⌜ Gives (now (self .entry)) r (now (self .exit)) ⌝ }
+    {
         match next_tag(self.text, self.place) {
             Ok(
                 Found::Start {
