@@ -23,7 +23,7 @@ use Rattle.name_bytes.specs.Names.{name-start, name-byte}
 use Rattle.markup.specs.Grammar.{plain, white, Quote, single, double, sign, Tag, opens, closes}
 use Rattle.markup.proofs.ByteClasses.{start-no-white, white-no-name-byte, start-name-byte}
 use Rattle.markup.specs.Faults.{fault-ending}
-use Rattle.markup.specs.Parts.{from, Stays, Comments, Goes, Way, Fails, Naming, start-tags, Finds, awaiting-all}
+use Rattle.markup.specs.Parts.{from, Named, Skips, Stays, Comments, Goes, Way, Fails, Naming, start-tags, Finds, awaiting-all}
 use Rattle.markup.specs.declared.fault.ReaderFault.the-variants.{CutOff}
 
 -- ## One byte
@@ -162,6 +162,20 @@ shut-spaced s i at k b l e w n =
 
 pub space-here : (s : List ℕ) (i at k b : ℕ) → i < length s → getD s i 0 ≡ b → white b ≡ true → from s i (valued at k) ≡ from s (i + 1) (spaced at k)
 space-here s i at k b l e w = at-on s i (valued at k) (spaced at k) l (cond-true (white (getD s i 0)) _ _ (ap white e ∙ w))
+
+-- in a start tag: past white space, to what stands behind it
+pub to-spaced : (s : List ℕ) (p i j b at k : ℕ) → from s p (valued at k) ≡ from s i (valued at k) → (i < length s) × (getD s i 0 ≡ b) → white b ≡ true → Skips white s (i + 1) j →
+    from s p (valued at k) ≡ from s j (spaced at k)
+to-spaced s p i j b at k e (l, f) w h = e ∙ space-here s i at k b l f w ∙ h .same (spaced at k) (white-spaced at k)
+
+-- past an attribute's name and white space, to the `=`
+pub to-equals : (s : List ℕ) (a e i at k : ℕ) → a < length s → name-start (getD s a 0) ≡ true → Named s (a + 1) (Ok e) → Skips white s e i →
+    from s a (spaced at k) ≡ from s i (attribute-named at k)
+to-equals s a e i at k l h n g =
+    at-on s a (spaced at k) (naming-attribute at k 1) l (begins-attribute a at k (getD s a 0) h)
+    ∙ n .2 (naming-attribute at k) (naming-attr at k)
+    ∙ name-ended s e at k _ (n .3)
+    ∙ g .same (attribute-named at k) (white-named at k)
 
 -- ## The ends of tags
 
