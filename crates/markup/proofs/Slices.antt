@@ -2,7 +2,7 @@
 use mathlib.Core.Path.{_≡_, refl, sym, ap, subst, _∙_}
 use mathlib.Core.Bool.{Bool, true, false, cond}
 use mathlib.Core.List.{List, [], _∷_, _++_}
-use Prim.Native.Nat.{ℕ, suc, _+_, _≤_, _<_}
+use Prim.Native.Nat.{ℕ, suc, _+_, _-_, _≤_, _<_}
 use native.Mathlib.Omega.{arith}
 use native.Mathlib.Numerals.{add-one}
 use lib.ListN.{length, drop, getD}
@@ -16,7 +16,7 @@ use Rattle.markup.specs.declared.piece.Found.{Found}
 use Rattle.markup.specs.declared.piece.Found.the-variants.{Finish, Comment, Start, End}
 use Rattle.markup.specs.declared.comment.CommentPart.{CommentPart}
 use Rattle.markup.specs.declared.comment.CommentPart.the-variants.{Goes as RemarkGoes, Ends as RemarkEnds}
-use Rattle.std.proofs.shelf.Tests.{eq-eqb, ne-eqb, cond-true, cond-false, lt-ltb, le-ltb, cases-lt}
+use Rattle.std.proofs.shelf.Tests.{eqb-true, eq-eqb, ne-eqb, cond-true, cond-false, lt-ltb, le-ltb, cases-lt}
 use lib.Dec.{eqb, ltb}
 use mathlib.Core.Logic.{_⊎_, inl, inr}
 use Rattle.name_bytes.specs.Names.{name-start, name-byte}
@@ -232,3 +232,29 @@ by-class s i m m′ b l e h = at-on s i m m′ l (ap (λ z. next i m z) e ∙ h)
 
 pub stop-class : (s : List ℕ) (i n p : ℕ) (m : Mode) (b : ℕ) → i < length s → getD s i 0 ≡ b → next i m b ≡ stop n p → from s i m ≡ record { given = []; ended = failed n p }
 stop-class s i n p m b l e h = at-stop s i n p m l (ap (λ z. next i m z) e ∙ h)
+
+-- ## Names of tags, and the beginning of a comment
+
+-- from the first byte of a start tag's name to behind the name
+pub to-named : (s : List ℕ) (f e at : ℕ) → f < length s → name-start (getD s f 0) ≡ true → Named s (f + 1) (Ok e) → from s f (angle at) ≡ from s e (valued at (e - (f + 1) + 1))
+to-named s f e at l h n =
+    at-on s f (angle at) (naming at 1) l (begins-start f at (getD s f 0) h) ∙ n .2 (naming at) (naming-start at) ∙ tag-named s e at _ (n .3)
+
+-- the same of an end tag
+pub to-end-named : (s : List ℕ) (f e at b : ℕ) → (f < length s) × (getD s f 0 ≡ b) → name-start b ≡ true → Named s (f + 1) (Ok e) →
+    from s f (slash at) ≡ from s e (end-spaced at (e - (f + 1) + 1))
+to-end-named s f e at b (l, g) h n =
+    by-class s f (slash at) (naming-end at 1) b l g (begins-end f at b h) ∙ n .2 (naming-end at) (naming-ends at) ∙ end-named s e at _ (n .3)
+
+-- the two hyphens behind `<!`
+pub to-hyphen : (s : List ℕ) (i at b : ℕ) → (i < length s) × (getD s i 0 ≡ b) → eqb b 45 ≡ true → from s i (bang at) ≡ from s (i + 1) (bang-hyphen at)
+to-hyphen s i at b (l, e) h = by-byte s i (bang at) (bang-hyphen at) b 45 l e (eqb-true b 45 h) refl
+
+pub to-comment : (s : List ℕ) (i at b : ℕ) → (i < length s) × (getD s i 0 ≡ b) → eqb b 45 ≡ true → from s i (bang-hyphen at) ≡ from s (i + 1) in-comment
+to-comment s i at b (l, e) h = by-byte s i (bang-hyphen at) in-comment b 45 l e (eqb-true b 45 h) refl
+
+pub no-hyphen : (s : List ℕ) (i at b : ℕ) → (i < length s) × (getD s i 0 ≡ b) → eqb b 45 ≡ false → from s i (bang at) ≡ record { given = []; ended = failed 23 at }
+no-hyphen s i at b (l, e) h = stop-class s i 23 at (bang at) b l e (cond-false (eqb b 45) _ _ h)
+
+pub no-comment : (s : List ℕ) (i at b : ℕ) → (i < length s) × (getD s i 0 ≡ b) → eqb b 45 ≡ false → from s i (bang-hyphen at) ≡ record { given = []; ended = failed 23 at }
+no-comment s i at b (l, e) h = stop-class s i 23 at (bang-hyphen at) b l e (cond-false (eqb b 45) _ _ h)

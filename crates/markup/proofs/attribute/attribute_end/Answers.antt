@@ -15,8 +15,8 @@ returns-in-Break-end c =
     let s = c .args .text .now in
     let a = c .args .from in
     λ at k. rw (p .1, p .2)
-      (at-on s a (spaced at k) (naming-attribute at k 1) (c .pre .0) (begins-attribute a at k (getD s a 0) (c .pre .1))
-      ∙ c .in-Break-end .ensures tt (naming-attribute at k) (naming-attr at k))
+    (at-on s a (spaced at k) (naming-attribute at k 1) (c .pre .0) (begins-attribute a at k (getD s a 0) (c .pre .1))
+    ∙ c .in-Break-end .ensures tt (naming-attribute at k) (naming-attr at k))
 
 pub returns-in-Break-b : need.returns-in-Break-b
 returns-in-Break-b c =
@@ -24,8 +24,8 @@ returns-in-Break-b c =
     let s = c .args .text .now in
     let i = c .skip-white-i .result in
     λ at k. rw (p .1, p .2)
-      (to-equals s (c .args .from) (c .in-Continue-end .end) i at k (c .pre .0) (c .pre .1) (c .in-Continue-end .ensures tt) (c .skip-white-i .ensures)
-      ∙ cut-way s i (attribute-named at k) (valued at k) _ refl (c .in-Break-b .ensures tt))
+    (to-equals s (c .args .from) (c .in-Continue-end .end) i at k (c .pre .0) (c .pre .1) (c .in-Continue-end .ensures tt) (c .skip-white-i .ensures)
+    ∙ cut-way s i (attribute-named at k) (valued at k) _ refl (c .in-Break-b .ensures tt))
 
 pub returns-then-not-is-equals : need.returns-then-not-is-equals
 returns-then-not-is-equals c =
@@ -34,7 +34,7 @@ returns-then-not-is-equals c =
     let h = c .in-Continue-b .ensures tt in
     let n = eqb-false (c .in-Continue-b .b) 61 (sym (c .if-not-is-equals .ensures tt)) in
     λ at k. to-equals s (c .args .from) (c .in-Continue-end .end) i at k (c .pre .0) (c .pre .1) (c .in-Continue-end .ensures tt) (c .skip-white-i .ensures)
-      ∙ at-stop s i 22 i (attribute-named at k) (h .0) (refuses-named i at k (getD s i 0) (c .skip-white-i .ensures .ends (h .0)) (λ f. n (sym (h .1) ∙ f)))
+    ∙ at-stop s i 22 i (attribute-named at k) (h .0) (refuses-named i at k (getD s i 0) (c .skip-white-i .ensures .ends (h .0)) (λ f. n (sym (h .1) ∙ f)))
 
 pub returns : need.returns
 returns c =
@@ -45,7 +45,7 @@ returns c =
     let d : a ≤ i = omega (arith, c .in-Continue-end .ensures tt .0, c .skip-white-i .ensures .onward) in
     let q = eqb-true (c .in-Continue-b .b) 61 (sym (c .if-not-is-equals .ensures tt)) in
     λ at k. way-from s a i (spaced at k) (attribute-named at k) (valued at k) (c .value-end .result) d
-      (to-equals s a (c .in-Continue-end .end) i at k (c .pre .0) (c .pre .1) (c .in-Continue-end .ensures tt) (c .skip-white-i .ensures))
-      (way-after s i (attribute-named at k) (equals at k) (valued at k) (c .value-end .result)
-        (by-byte s i (attribute-named at k) (equals at k) (c .in-Continue-b .b) 61 (h .0) (h .1) q refl)
-        (c .value-end .ensures at k))
+    (to-equals s a (c .in-Continue-end .end) i at k (c .pre .0) (c .pre .1) (c .in-Continue-end .ensures tt) (c .skip-white-i .ensures))
+    (way-after s i (attribute-named at k) (equals at k) (valued at k) (c .value-end .result)
+    (by-byte s i (attribute-named at k) (equals at k) (c .in-Continue-b .b) 61 (h .0) (h .1) q refl)
+    (c .value-end .ensures at k))

@@ -24,8 +24,8 @@ returns-in-Break-c c =
     let j = c .skip-white-j .result in
     let w = sym (c .if-not-is-white .ensures tt) in
     rw (p .1, p .2)
-      (λ at k. to-spaced s (c .args .from) (c .loop-b .i) j (c .in-Continue-b .b) at k (c .loop-b .inv .2 at k) (c .in-Continue-b .ensures tt) w (c .skip-white-j .ensures)
-        ∙ cut-way s j (spaced at k) (valued at k) _ refl (c .in-Break-c .ensures tt))
+    (λ at k. to-spaced s (c .args .from) (c .loop-b .i) j (c .in-Continue-b .b) at k (c .loop-b .inv .2 at k) (c .in-Continue-b .ensures tt) w (c .skip-white-j .ensures)
+    ∙ cut-way s j (spaced at k) (valued at k) _ refl (c .in-Break-c .ensures tt))
 
 pub returns-then-not-is-name-start : need.returns-then-not-is-name-start
 returns-then-not-is-name-start c =
@@ -33,18 +33,20 @@ returns-then-not-is-name-start c =
     let j = c .skip-white-j .result in
     let w = sym (c .if-not-is-white .ensures tt) in
     let h = c .in-Continue-c .ensures tt in
-    let n = sym (c .if-not-is-name-start .ensures tt) in
-    (omega (arith, c .loop-b .inv .0, c .skip-white-j .ensures .onward), h .0,
+    let n = sym (c .if-not-is-name-start .ensures tt) in (
+      omega (arith, c .loop-b .inv .0, c .skip-white-j .ensures .onward),
+      h .0,
       λ at k. to-spaced s (c .args .from) (c .loop-b .i) j (c .in-Continue-b .b) at k (c .loop-b .inv .2 at k) (c .in-Continue-b .ensures tt) w (c .skip-white-j .ensures)
-        ∙ shut-spaced s j at k (c .in-Continue-c .c) (h .0) (h .1) (c .skip-white-j .ensures .ends (h .0)) n)
+          ∙ shut-spaced s j at k (c .in-Continue-c .c) (h .0) (h .1) (c .skip-white-j .ensures .ends (h .0)) n,
+    )
 
 pub returns-in-Break-i : need.returns-in-Break-i
 returns-in-Break-i c =
     let p = err-from-errBy (c .from-residual-in-Break-i .result) (c .from-residual-in-Break-i .ensures .1) in
     let w = sym (c .if-not-is-white .ensures tt) in
     rw (p .1, p .2)
-      (λ at k. to-spaced (c .args .text .now) (c .args .from) (c .loop-b .i) (c .skip-white-j .result) (c .in-Continue-b .b) at k (c .loop-b .inv .2 at k) (c .in-Continue-b .ensures tt) w (c .skip-white-j .ensures)
-        ∙ c .in-Break-i .ensures tt at k)
+    (λ at k. to-spaced (c .args .text .now) (c .args .from) (c .loop-b .i) (c .skip-white-j .result) (c .in-Continue-b .b) at k (c .loop-b .inv .2 at k) (c .in-Continue-b .ensures tt) w (c .skip-white-j .ensures)
+    ∙ c .in-Break-i .ensures tt at k)
 
 pub loop-b-less : need.loop-b-less
 loop-b-less c = omega (arith, c .in-Continue-i .ensures tt 0 0 .onward, c .in-Continue-i .ensures tt 0 0 .inside, c .skip-white-j .ensures .onward)
@@ -52,7 +54,9 @@ loop-b-less c = omega (arith, c .in-Continue-i .ensures tt 0 0 .onward, c .in-Co
 pub loop-b-again : need.loop-b-again
 loop-b-again c =
     let w = sym (c .if-not-is-white .ensures tt) in
-    let g = c .in-Continue-i .ensures tt in
-    (omega (arith, c .loop-b .inv .0, c .skip-white-j .ensures .onward, g 0 0 .onward), g 0 0 .inside,
+    let g = c .in-Continue-i .ensures tt in (
+      omega (arith, c .loop-b .inv .0, c .skip-white-j .ensures .onward, g 0 0 .onward),
+      g 0 0 .inside,
       λ at k. to-spaced (c .args .text .now) (c .args .from) (c .loop-b .i) (c .skip-white-j .result) (c .in-Continue-b .b) at k (c .loop-b .inv .2 at k) (c .in-Continue-b .ensures tt) w (c .skip-white-j .ensures)
-        ∙ g at k .same)
+          ∙ g at k .same,
+    )

@@ -20,8 +20,8 @@ returns-then-b-eq97 c =
     let at = c .args .at in
     let h = c .in-Continue-b .ensures tt in
     λ w. way-after s i (ampersand at w) (ampersand-a at w) (in-content w) (c .after-ampersand-a .result)
-      (by-byte s i (ampersand at w) (ampersand-a at w) (c .in-Continue-b .b) 97 (h .0) (h .1) (c .if-b-eq97 .taken) refl)
-      (c .after-ampersand-a .ensures w)
+    (by-byte s i (ampersand at w) (ampersand-a at w) (c .in-Continue-b .b) 97 (h .0) (h .1) (c .if-b-eq97 .taken) refl)
+    (c .after-ampersand-a .ensures w)
 
 pub returns-then-b-eq108 : need.returns-then-b-eq108
 returns-then-b-eq108 c =
@@ -30,8 +30,8 @@ returns-then-b-eq108 c =
     let at = c .args .at in
     let h = c .in-Continue-b .ensures tt in
     λ w. way-after s i (ampersand at w) (awaiting at w 116 (59 ∷ [])) (in-content w) (c .reference-rest .result)
-      (by-byte s i (ampersand at w) (awaiting at w 116 (59 ∷ [])) (c .in-Continue-b .b) 108 (h .0) (h .1) (c .if-b-eq108 .taken) refl)
-      (c .reference-rest .ensures w)
+    (by-byte s i (ampersand at w) (awaiting at w 116 (59 ∷ [])) (c .in-Continue-b .b) 108 (h .0) (h .1) (c .if-b-eq108 .taken) refl)
+    (c .reference-rest .ensures w)
 
 pub returns-then-b-eq103 : need.returns-then-b-eq103
 returns-then-b-eq103 c =
@@ -40,8 +40,8 @@ returns-then-b-eq103 c =
     let at = c .args .at in
     let h = c .in-Continue-b .ensures tt in
     λ w. way-after s i (ampersand at w) (awaiting at w 116 (59 ∷ [])) (in-content w) (c .reference-rest-then-b-eq103 .result)
-      (by-byte s i (ampersand at w) (awaiting at w 116 (59 ∷ [])) (c .in-Continue-b .b) 103 (h .0) (h .1) (c .if-b-eq103 .taken) refl)
-      (c .reference-rest-then-b-eq103 .ensures w)
+    (by-byte s i (ampersand at w) (awaiting at w 116 (59 ∷ [])) (c .in-Continue-b .b) 103 (h .0) (h .1) (c .if-b-eq103 .taken) refl)
+    (c .reference-rest-then-b-eq103 .ensures w)
 
 pub returns-then-b-eq113 : need.returns-then-b-eq113
 returns-then-b-eq113 c =
@@ -50,8 +50,8 @@ returns-then-b-eq113 c =
     let at = c .args .at in
     let h = c .in-Continue-b .ensures tt in
     λ w. way-after s i (ampersand at w) (awaiting at w 117 (111 ∷ (116 ∷ (59 ∷ [])))) (in-content w) (c .reference-rest-then-b-eq113 .result)
-      (by-byte s i (ampersand at w) (awaiting at w 117 (111 ∷ (116 ∷ (59 ∷ [])))) (c .in-Continue-b .b) 113 (h .0) (h .1) (c .if-b-eq113 .taken) refl)
-      (c .reference-rest-then-b-eq113 .ensures w)
+    (by-byte s i (ampersand at w) (awaiting at w 117 (111 ∷ (116 ∷ (59 ∷ [])))) (c .in-Continue-b .b) 113 (h .0) (h .1) (c .if-b-eq113 .taken) refl)
+    (c .reference-rest-then-b-eq113 .ensures w)
 
 pub returns : need.returns
 returns c =

@@ -20,8 +20,8 @@ returns-then-b-eq109 c =
     let at = c .args .at in
     let h = c .in-Continue-b .ensures tt in
     λ w. way-after s i (ampersand-a at w) (awaiting at w 112 (59 ∷ [])) (in-content w) (c .reference-rest .result)
-      (by-byte s i (ampersand-a at w) (awaiting at w 112 (59 ∷ [])) (c .in-Continue-b .b) 109 (h .0) (h .1) (c .if-b-eq109 .taken) refl)
-      (c .reference-rest .ensures w)
+    (by-byte s i (ampersand-a at w) (awaiting at w 112 (59 ∷ [])) (c .in-Continue-b .b) 109 (h .0) (h .1) (c .if-b-eq109 .taken) refl)
+    (c .reference-rest .ensures w)
 
 pub returns-then-b-eq112 : need.returns-then-b-eq112
 returns-then-b-eq112 c =
@@ -30,8 +30,8 @@ returns-then-b-eq112 c =
     let at = c .args .at in
     let h = c .in-Continue-b .ensures tt in
     λ w. way-after s i (ampersand-a at w) (awaiting at w 111 (115 ∷ (59 ∷ []))) (in-content w) (c .reference-rest-then-b-eq112 .result)
-      (by-byte s i (ampersand-a at w) (awaiting at w 111 (115 ∷ (59 ∷ []))) (c .in-Continue-b .b) 112 (h .0) (h .1) (c .if-b-eq112 .taken) refl)
-      (c .reference-rest-then-b-eq112 .ensures w)
+    (by-byte s i (ampersand-a at w) (awaiting at w 111 (115 ∷ (59 ∷ []))) (c .in-Continue-b .b) 112 (h .0) (h .1) (c .if-b-eq112 .taken) refl)
+    (c .reference-rest-then-b-eq112 .ensures w)
 
 pub returns : need.returns
 returns c =
