@@ -16,6 +16,14 @@ pub(crate) enum Pending {
     Fault(ReaderFault),
 }
 
+// Where the fields stand once the open of the empty tag `<reel/>` has been given:
+//
+//     <box><reel/></box>
+//          ^    ^ ^
+//          at   | place
+//               end
+//
+// and `pending` is the close with that `at` and `end`.
 #[derive(Drop)]
 pub struct Reader<'a> {
     pub(crate) text: &'a [u8],
