@@ -1,0 +1,11 @@
+pub mod ByteClasses
+pub mod Names
+pub mod Table
+pub mod RightTexts
+pub mod Begun
+pub mod Steps
+pub mod Tracked
+pub mod Refused
+pub mod OneReading
+pub mod Slices
+pub mod Shown

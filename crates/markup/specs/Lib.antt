@@ -1,0 +1,10 @@
+pub mod Grammar
+pub mod Reading
+pub mod Law
+pub mod Cases
+pub mod Faults
+pub mod Parts
+pub mod Pending
+pub mod Tokens
+pub mod Whole
+pub mod Classes
