@@ -2,5 +2,8 @@ mod Entries
 mod FileRead
 mod FirstOff
 mod NamesRead
+mod ReadBack
 mod TablesRead
 mod Unpacked
+mod WasWritten
+mod Written
