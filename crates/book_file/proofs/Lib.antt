@@ -1,5 +1,6 @@
 mod Entries
 mod FileRead
+mod Filled
 mod FirstOff
 mod NamesRead
 mod ReadBack

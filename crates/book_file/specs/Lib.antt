@@ -3,3 +3,4 @@ pub mod Files
 pub mod Laws
 pub mod Names
 pub mod Parts
+pub mod Books

@@ -7,8 +7,8 @@ use Prim.Native.Nat.{ℕ, zero, suc, _+_, _-_, _*_, _≤_, _<_, zero-le}
 use native.Mathlib.Omega.{arith}
 use borrow.Author.Tests.{ltb-true, le-ltb}
 use Rattle.std.proofs.shelf.Tests.{and-parts, and-left, and-right, cond-false, cond-both}
-use lib.Dec.{ltb, eqb}
-use lib.ListN.{getD}
+use lib.Dec.{eqb, leb, ltb}
+use lib.ListN.{getD, length}
 use Rattle.name_bytes.specs.Names.{all}
 use Rattle.book.specs.Limits.{tags, most-states}
 use Rattle.book.specs.Machines.{Machine, Marks, Lawful, LawfulMarks}
@@ -74,11 +74,11 @@ cond-within false n bound h = zero-le
 asked-out : (width s t : ℕ) → (width ≤ s) ⊎ (tags ≤ t) → (ltb s width && ltb t tags) ≡ false
 asked-out width s t h = ⊎-elim (λ p. and-left (ltb s width) (ltb t tags) (le-ltb s width p)) (λ p. and-right (ltb s width) (ltb t tags) (le-ltb t tags p)) h
 
-pub table-lawful : (b : Table) → b .states ≤ most-states → b .start < b .states → below (b .states) (b .enter) ≡ true → below (b .states) (b .side) ≡ true → Lawful (table-machine b)
+pub table-lawful : (b : Table) → b .states ≤ most-states → b .start ≤ b .states - 1 → below (b .states) (b .enter) ≡ true → below (b .states) (b .side) ≡ true → Lawful (table-machine b)
 table-lawful b narrow starts enters sides =
     record {
       narrow = narrow;
-      starts = omega arith;
+      starts = starts;
       enters = λ s t. cond-within (ltb s (b .states) && ltb t tags) _ (b .states - 1) (getD-below (b .states) (b .enter) (s * b .columns + column (b .columns) t) enters);
       backs = λ s q t. cond-within (ltb s (b .states) && (ltb q (b .states) && ltb t tags)) _ (b .states - 1) (getD-below (b .states) (b .side) (s * b .trees + entry (b .up) (b .columns) q (column (b .columns) t)) sides);
       no-enter = λ s t out. cond-false (ltb s (b .states) && ltb t tags) _ 0 (asked-out (b .states) s t out);
@@ -93,3 +93,16 @@ table-marked b mark marks =
       marks = λ s t. cond-within (ltb s (b .states) && ltb t tags) _ (b .states - 1) (getD-below (b .states) mark (s * b .columns + column (b .columns) t) marks);
       no-mark = λ s t out. cond-false (ltb s (b .states) && ltb t tags) _ 0 (asked-out (b .states) s t out);
     }
+
+-- Whole tables ----------------------------------------------------------------------------------------------------
+
+-- tables of the right sizes, with entries in their ranges
+abbrev pub filled : Table → Bool
+filled b =
+    leb (b .states) most-states && (ltb (b .start) (b .states) && (leb 1 (b .columns)
+    && (eqb (length (b .accept)) (b .states) && (eqb (length (b .enter)) (b .states * b .columns) && (eqb (length (b .up)) (b .states * b .columns) && (eqb (length (b .side)) (b .states * b .trees)
+    && (below (b .states) (b .enter) && (below (b .trees) (b .up) && below (b .states) (b .side)))))))))
+
+-- no states at all
+abbrev pub no-table : Table
+no-table = table 0 0 1 0 [] [] [] []

@@ -93,7 +93,7 @@ struct Tables<'a> {
 }
 
 // The offset of the first entry that is not below the bound, of entries that begin at an offset.
-fn first_not_below(entries: &[u8], bound: u16, at: usize) -> Option<usize>
+pub(crate) fn first_not_below(entries: &[u8], bound: u16, at: usize) -> Option<usize>
     requires { ⌜ at + length (now entries) < 2 ^ 64 ⌝ }
     ensures { λ r. ⌜ r ≡ first-off (λ x. ltb x bound) at (now (entries .entry)) ⌝ }
 {

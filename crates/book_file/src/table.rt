@@ -1,7 +1,7 @@
 // Books that answer from the tables of a file, in the file's own bytes.
 ghost use mathlib.Core.Bool.{true};
 ghost use mathlib.Core.Path.{_≡_};
-ghost use Prim.Native.Nat.{_+_, _*_, _<_, _≤_};
+ghost use Prim.Native.Nat.{_+_, _-_, _*_, _<_, _≤_};
 ghost use lib.ListN.{length};
 ghost use denote.Ref.{now};
 ghost use Rattle.book.specs.Limits.{most-states};
@@ -15,16 +15,16 @@ const TAGS: u8 = 32;
 // A shape book.
 #[derive(Drop)]
 pub struct TableBook<'a> {
-    states: u16,
-    trees: u16,
-    columns: u8,
-    start: u16,
-    accept: &'a [u8],
-    enter: &'a [u8],
-    up: &'a [u8],
-    side: &'a [u8],
+    pub(crate) states: u16,
+    pub(crate) trees: u16,
+    pub(crate) columns: u8,
+    pub(crate) start: u16,
+    pub(crate) accept: &'a [u8],
+    pub(crate) enter: &'a [u8],
+    pub(crate) up: &'a [u8],
+    pub(crate) side: &'a [u8],
     ghost narrow: { states ≤ most-states },
-    ghost starts: { start < states },
+    ghost starts: { start ≤ states - 1 },
     ghost some: { 1 ≤ columns },
     ghost accept_whole: { length (now accept) ≡ states },
     ghost enter_whole: { length (now enter) ≡ states * columns },
@@ -38,8 +38,8 @@ pub struct TableBook<'a> {
 // A selecting book: the same with a table for `mark`.
 #[derive(Drop)]
 pub struct SelectingTableBook<'a> {
-    shape: TableBook<'a>,
-    mark: &'a [u8],
+    pub(crate) shape: TableBook<'a>,
+    pub(crate) mark: &'a [u8],
     ghost mark_whole: { length (now mark) ≡ shape .states * shape .columns },
     ghost marks: { below (shape .states) (now mark) ≡ true },
 }
