@@ -1,10 +1,10 @@
 -- What was written is read: each part of a right file, and the file.
 use mathlib.Core.Path.{_≡_, refl, sym, ap, _∙_}
-use mathlib.Core.Bool.{Bool, true, false, cond, _&&_}
+use mathlib.Core.Bool.{true, cond, _&&_}
 use mathlib.Core.List.{List, [], _∷_, _++_}
-use Prim.Native.Nat.{ℕ, zero, suc, _+_, _-_, _*_, _≤_, _<_}
+use Prim.Native.Nat.{ℕ, suc, _+_, _-_, _*_, _≤_}
 use native.Mathlib.Omega.{arith}
-use lib.Dec.{eqb, leb, ltb}
+use lib.Dec.{leb, ltb}
 use lib.ListN.{drop, length, take}
 use Rattle.std.proofs.shelf.Lists.{drop-at, length-append, take-at}
 use Rattle.std.proofs.shelf.Tests.{and-from, and-parts, cond-false, cond-true, le-leb, le-ltb}
@@ -18,7 +18,7 @@ use Rattle.name_bytes.specs.Names.{all, between, name-byte, name-limit, name-st
 use Rattle.book_file.specs.declared.header.Header.{Header}
 use Rattle.book_file.specs.declared.header.Kind.{Kind}
 use Rattle.book_file.specs.declared.header.Kind.the-variants.{Selecting, Shape}
-use Rattle.book_file.specs.Files.{File, Filled, Right, Rows, bytes-of, entries, file-with, first-off, header, kind-byte, kind-of, mark-size, misspelt, name-at, names-at, names-bytes, reading, right-names, table-at, tables-at, tables-size, then, unless}
+use Rattle.book_file.specs.Files.{File, Filled, Right, bytes-of, entries, first-off, header, kind-byte, kind-of, mark-size, misspelt, name-at, names-at, names-bytes, reading, right-names, table-at, tables-at, tables-size, then, unless}
 use Rattle.book_file.proofs.FileRead.{file-read}
 use Rattle.book_file.proofs.FirstOff.{all-none, unless-none}
 use Rattle.book_file.proofs.TablesRead as read

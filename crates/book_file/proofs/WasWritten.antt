@@ -7,7 +7,7 @@ use native.Mathlib.Omega.{arith}
 use lib.Dec.{eqb, leb, ltb}
 use lib.ListN.{drop, getD, length, take}
 use Rattle.std.proofs.shelf.Lists.{drop-drop, drop-more, length-drop, length-take-le, take-append-drop}
-use Rattle.std.proofs.shelf.Tests.{and-from, and-parts, eqb-true, leb-true, le-leb, ltb-false}
+use Rattle.std.proofs.shelf.Tests.{and-from, and-parts, eqb-true, leb-true, ltb-false}
 use Rattle.std.specs.declared.option.Option.{Option}
 use Rattle.std.specs.declared.option.Option.the-variants.{None, Some}
 use Rattle.std.specs.declared.result.Result.{Result}
