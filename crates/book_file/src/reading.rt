@@ -1,6 +1,7 @@
 // Reading a book file from its bytes.
+ghost use mathlib.Core.List.{[]};
 ghost use mathlib.Core.Path.{_≡_};
-ghost use Prim.Native.Nat.{suc, _+_, _-_, _*_, _^_, _<_, _≤_};
+ghost use Prim.Native.Nat.{ℕ, suc, _+_, _-_, _*_, _^_, _<_, _≤_};
 ghost use lib.Dec.{ltb};
 ghost use lib.ListN.{drop, length, take};
 ghost use mathlib.Core.Bool.{true};
@@ -224,10 +225,17 @@ impl<'a> Rest<'a> {
         'names: for _ in 0..count {
             let _name = self.name(size)?;
         }
-        if self.bytes.len() > 0 {
-            return Err(BookFault::ExtraByte { at: self.at });
+        self.finish()
+    }
+
+    // Nothing may be left.
+    fn finish(&self) -> Result<(), BookFault>
+        ensures { λ r. ⌜ ((size : ℕ) → passed r [] ≡ names-at size 0 (now (self .entry) .at) (now (now (self .entry) .bytes))) ⌝ }
+    {
+        match self.bytes.split_first() {
+            Some(_) => Err(BookFault::ExtraByte { at: self.at }),
+            None => Ok(()),
         }
-        Ok(())
     }
 }
 
