@@ -3,5 +3,8 @@ mod FileRead
 mod Filled
 mod FirstOff
 mod NamesRead
+mod ReadBack
 mod TablesRead
 mod Unpacked
+mod WasWritten
+mod Written

@@ -13,9 +13,9 @@ use Rattle.std.specs.declared.option.Option.the-variants.{None, Some}
 use Rattle.std.specs.declared.result.Result.{Result}
 use Rattle.std.specs.declared.result.Result.the-variants.{Err, Ok}
 use Rattle.book.specs.declared.fault.BookFault.{BookFault}
-use Rattle.book.specs.declared.fault.BookFault.the-variants.{CutOff, ExtraByte, NameByte}
+use Rattle.book.specs.declared.fault.BookFault.the-variants.{CutOff, NameByte}
 use Rattle.name_bytes.specs.Names.{between, name-limit}
-use Rattle.book_file.specs.Files.{misspelt, name-at, names-at, then, unless}
+use Rattle.book_file.specs.Files.{misspelt, name-at, names-at, passed, then, unless}
 use Rattle.book_file.specs.Names.{unpacked}
 
 abbrev pub Listing : Type 0
@@ -54,24 +54,15 @@ module _ (size count counter at : ℕ) (bs : List ℕ) (ws : List (List ℕ)) wh
       ap (λ n. behind ws (names-at size n at bs)) more
       ∙ ap (λ r. behind ws (then r (λ v. then (names-at size left (at + suc (length v)) (drop (suc (length v)) bs)) (λ vs. Ok (v ∷ vs))))) (sym named)
 
-  -- all names are read, and nothing or something stands behind them
-  pub names-end : count ≤ counter → length bs ≤ 0 → behind ws (names-at size (count - counter) at bs) ≡ Ok ws
-  names-end l none =
+  -- all names are read, and what is left passes or does not
+  pub names-finish : {U : Type 0} (r : Result U BookFault) → count ≤ counter → passed r [] ≡ names-at size 0 at bs → behind ws (names-at size (count - counter) at bs) ≡ passed r ws
+  names-finish {U} r l e =
       let all : count - counter ≡ 0 = omega arith in
-      ap (λ n. behind ws (names-at size n at bs)) all ∙ go bs none
+      ap (λ n. behind ws (names-at size n at bs)) all ∙ ap (behind ws) (sym e) ∙ go r
     where
-      go : (xs : List ℕ) → length xs ≤ 0 → behind ws (names-at size 0 at xs) ≡ Ok ws
-      go [] h = ap (λ vs. Ok vs) (append-nil ws)
-      go (x ∷ xs) h = absurd (omega arith)
-
-  pub names-extra : count ≤ counter → 0 < length bs → behind ws (names-at size (count - counter) at bs) ≡ Err (ExtraByte at)
-  names-extra l some =
-      let all : count - counter ≡ 0 = omega arith in
-      ap (λ n. behind ws (names-at size n at bs)) all ∙ go bs some
-    where
-      go : (xs : List ℕ) → 0 < length xs → behind ws (names-at size 0 at xs) ≡ Err (ExtraByte at)
-      go [] h = absurd (omega arith)
-      go (x ∷ xs) h = refl
+      go : (x : Result U BookFault) → behind ws (passed x []) ≡ passed x ws
+      go (Ok u) = ap (λ vs. Ok vs) (append-nil ws)
+      go (Err e) = refl
 
 -- What is read is what the bytes unpack to.
 pub name-is : (size at n : ℕ) (bs w : List ℕ) → name-at size at (n ∷ bs) ≡ Ok w → (w ≡ take n bs) × (length w ≡ n)
@@ -105,3 +96,7 @@ names-unpack size (suc count) at (n ∷ bs) ws h = one (name-at size at (n ∷ b
         p .2 ∙ ap (λ v. v ∷ p .0) (q .0)
         ∙ ap (λ vs. take n bs ∷ vs) (rest (at + suc (length w)) (drop (length w) bs) (p .0) (p .1) ∙ ap (λ m. unpacked count (drop m bs)) (q .1))
     one (Err x) e k rest = absurd (let z : _≡_ {A = ℕ} 0 1 = cc in omega arith)
+
+pub names-passed : {U : Type 0} (r : Result U BookFault) (size count at : ℕ) (bs : List ℕ) (ws : List (List ℕ)) → names-at size count at bs ≡ passed r ws → passed r (unpacked count bs) ≡ names-at size count at bs
+names-passed (Ok u) size count at bs ws e = ap (λ vs. Ok vs) (sym (names-unpack size count at bs ws e)) ∙ sym e
+names-passed (Err x) size count at bs ws e = sym e

@@ -46,6 +46,14 @@ fn find_tag(packed: &[u8], count: u8, name: &[u8]) -> u8
     0
 }
 
+// The same, with what it says in words.
+fn lowest_tag(packed: &[u8], count: u8, name: &[u8]) -> u8
+    ensures value { λ r. ⌜ r ≡ tag-of (unpacked count (now (packed .entry))) (now (name .entry)) ⌝ }
+    ensures lowest { λ r. ⌜ Lowest-tag (unpacked count (now (packed .entry))) (now (name .entry)) r ⌝ }
+{
+    find_tag(packed, count, name)
+}
+
 // The name of a tag, of so many names that are packed.
 fn find_name<'a>(packed: &'a [u8], count: u8, tag: u8) -> Option<&'a [u8]>
     ensures { λ r. ⌜ spelt r ≡ name-of (unpacked count (now (packed .entry))) tag ⌝ }
@@ -69,7 +77,7 @@ impl<'a> Names<'a> {
         ensures value { λ r. ⌜ r ≡ tag-of (listed (now (self .entry))) (now (name .entry)) ⌝ }
         ensures lowest { λ r. ⌜ Lowest-tag (listed (now (self .entry))) (now (name .entry)) r ⌝ }
     {
-        find_tag(self.packed, self.count, name)
+        lowest_tag(self.packed, self.count, name)
     }
 
     // The name of a tag, where it has one.

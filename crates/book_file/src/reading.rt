@@ -1,12 +1,14 @@
 // Reading a book file from its bytes.
+ghost use mathlib.Core.List.{[]};
 ghost use mathlib.Core.Path.{_≡_};
-ghost use Prim.Native.Nat.{suc, _+_, _-_, _*_, _^_, _<_, _≤_};
+ghost use Prim.Native.Nat.{ℕ, suc, _+_, _-_, _*_, _^_, _<_, _≤_};
 ghost use lib.Dec.{ltb};
 ghost use lib.ListN.{drop, length, take};
 ghost use mathlib.Core.Bool.{true};
 ghost use Rattle.std.specs.Vec.{made};
 ghost use Rattle.book_file.specs.Files.{entries, file-with, first-off, header, mark-size, misspelt, name-at, names-at, parted, passed, reading, table-at, tables-at, tables-size};
 ghost use Rattle.name_bytes.specs.Names.{name-byte};
+ghost use Rattle.book_file.specs.Laws.{Written-once};
 ghost use Rattle.book_file.specs.Names.{listed, unpacked};
 ghost use Rattle.book_file.specs.Parts.{Tables-filled, file-of, read-file, rows-of, tables-of};
 ghost use Rattle.book_file.specs.Table.{below};
@@ -223,10 +225,17 @@ impl<'a> Rest<'a> {
         'names: for _ in 0..count {
             let _name = self.name(size)?;
         }
-        if self.bytes.len() > 0 {
-            return Err(BookFault::ExtraByte { at: self.at });
+        self.finish()
+    }
+
+    // Nothing may be left.
+    fn finish(&self) -> Result<(), BookFault>
+        ensures { λ r. ⌜ ((size : ℕ) → passed r [] ≡ names-at size 0 (now (self .entry) .at) (now (now (self .entry) .bytes))) ⌝ }
+    {
+        match self.bytes.split_first() {
+            Some(_) => Err(BookFault::ExtraByte { at: self.at }),
+            None => Ok(()),
         }
-        Ok(())
     }
 }
 
@@ -292,9 +301,18 @@ fn tables_count(header: Header) -> usize
     states + entries + mark_count(header) + entries + states * header.trees as usize
 }
 
-// The book file in these bytes, or its first fault.
-pub fn read_book<'a>(bytes: &'a [u8]) -> Result<BookFile<'a>, BookFault>
-    ensures { λ r. ⌜ read-file r ≡ reading (now (bytes .entry)) ⌝ }
+// The same, with what it says of the bytes: from which file they were written, or that they were written from none.
+fn read_written<'a>(bytes: &'a [u8]) -> Result<BookFile<'a>, BookFault>
+    ensures value { λ r. ⌜ read-file r ≡ reading (now (bytes .entry)) ⌝ }
+    ensures written { λ r. ⌜ Written-once (now (bytes .entry)) (read-file r) ⌝ }
 {
     read_parts(bytes)
+}
+
+// The book file in these bytes, or its first fault.
+pub fn read_book<'a>(bytes: &'a [u8]) -> Result<BookFile<'a>, BookFault>
+    ensures value { λ r. ⌜ read-file r ≡ reading (now (bytes .entry)) ⌝ }
+    ensures written { λ r. ⌜ Written-once (now (bytes .entry)) (read-file r) ⌝ }
+{
+    read_written(bytes)
 }

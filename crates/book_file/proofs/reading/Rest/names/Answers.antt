@@ -5,7 +5,7 @@ use native.Mathlib.Omega.{arith}
 use Rattle.std.proofs.shelf.Results.{err-from-errBy}
 use Rattle.std.specs.declared.result.Result.the-variants.{Ok}
 use Rattle.book_file.specs.Files.{names-at}
-use Rattle.book_file.proofs.NamesRead.{behind, behind-none, names-end, names-extra, names-more, names-stop, names-unpack}
+use Rattle.book_file.proofs.NamesRead.{behind, behind-none, names-finish, names-more, names-passed, names-stop}
 use Rattle.book_file.proofs.reading.Rest.names.Needs as need
 
 pub names-holds : need.names-holds
@@ -41,14 +41,10 @@ names-again c =
       omega (arith, kept .at, kept .left, c .names .inv .1),
     )
 
-pub returns-then-self-gt0 : need.returns-then-self-gt0
-returns-then-self-gt0 c =
-    let read = c .names .inv .0 in
-    sym (read .1 ∙ names-extra (c .args .size) (c .args .count) (c .names .counter) (c .names .self .at) (c .names .self .bytes .now) (read .0) (c .names-test .left) (c .if-self-gt0 .taken))
-
 pub returns : need.returns
 returns c =
     let s = c .args .self .now in
     let read = c .names .inv .0 in
-    let all = read .1 ∙ names-end (c .args .size) (c .args .count) (c .names .counter) (c .names .self .at) (c .names .self .bytes .now) (read .0) (c .names-test .left) (c .if-self-gt0 .left) in
-    ap (λ ws. Ok ws) (sym (names-unpack (c .args .size) (c .args .count) (s .at) (s .bytes .now) (read .0) all)) ∙ sym all
+    names-passed (c .finish .result) (c .args .size) (c .args .count) (s .at) (s .bytes .now) (read .0)
+    (read .1
+    ∙ names-finish (c .args .size) (c .args .count) (c .names .counter) (c .names .self .at) (c .names .self .bytes .now) (read .0) (c .finish .result) (c .names-test .left) (c .finish .ensures (c .args .size)))
