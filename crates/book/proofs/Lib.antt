@@ -18,13 +18,7 @@ pub mod Runs
 pub mod Records
 pub mod Telling
 pub mod SomeAnswer
-pub mod Catalogues
-pub mod Simulations
-pub mod Opposites
-pub mod Boths
-pub mod LevelShapes
 pub mod Watch
 pub mod Acceptance
 pub mod Totals
 pub mod Room
-pub mod Paths

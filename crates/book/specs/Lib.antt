@@ -16,11 +16,4 @@ pub mod Promise
 pub mod Shown
 pub mod PromiseLaws
 pub mod Watch
-pub mod OutOfRange
-pub mod Places
-pub mod LevelShape
-pub mod Opposite
-pub mod Both
 pub mod Acceptance
-pub mod Path
-pub mod KindCases

@@ -1,13 +1,13 @@
 // The rows of known books, the smallest first, and the questions that making ready asks.
 use crate::counted::Counted;
 use crate::counted::CountedShape;
-use book::both::Both;
-use book::both::BothShape;
-use book::level::LevelBook;
-use book::level::LevelShape;
-use book::opposite::Opposite;
-use book::opposite::OppositeShape;
 use book::shape_book::ShapeBook;
+use kinds::both::Both;
+use kinds::both::BothShape;
+use kinds::level::LevelBook;
+use kinds::level::LevelShape;
+use kinds::opposite::Opposite;
+use kinds::opposite::OppositeShape;
 use ready::ready::Ready;
 use ready::ready::make_ready;
 use ready_samples::Sample;

@@ -1,0 +1,6 @@
+pub mod Catalogues
+pub mod Simulations
+pub mod Opposites
+pub mod Boths
+pub mod LevelShapes
+pub mod Paths
