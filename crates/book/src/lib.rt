@@ -2,6 +2,7 @@
 pub mod answer;
 pub mod event;
 pub mod fault;
+pub mod limits;
 pub mod selecting_book;
 pub mod shape_book;
 pub mod theory;

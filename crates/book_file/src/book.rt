@@ -10,9 +10,7 @@ use crate::file::ShapeFile;
 use crate::reading::first_not_below;
 use crate::table::SelectingTableBook;
 use crate::table::TableBook;
-
-// The greatest number of states.
-const STATES: u16 = 64;
+use book::limits::MOST_STATES;
 
 fn is_below(entries: &[u8], bound: u16) -> bool
     ensures { λ r. ⌜ r ≡ below bound (now (entries .entry)) ⌝ }
@@ -28,7 +26,7 @@ fn is_filled(file: &ShapeFile) -> bool
 {
     let states = file.states as usize;
     let entries = states * file.columns as usize;
-    file.states <= STATES
+    file.states <= MOST_STATES
         && file.start < file.states
         && file.columns >= 1
         && file.accept.len() == states

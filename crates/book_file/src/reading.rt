@@ -19,16 +19,15 @@ use crate::header::Header;
 use crate::header::Kind;
 use crate::names::Names;
 use book::fault::BookFault;
+use book::limits::TAGS;
 use name_bytes::NAME_LIMIT;
 use name_bytes::is_name_byte;
 use name_bytes::is_name_start;
 
 const HEADER: usize = 10;
 
-// The greatest numbers of states, of tree states and of tags.
+// The greatest number of states and of tree states in a file of version 1.
 const STATES: u8 = 64;
-
-const TAGS: u8 = 32;
 
 // The header's length, its letters, its version, and then its numbers from the left.
 fn read_header(bytes: &[u8]) -> Result<Header, BookFault>

@@ -6,11 +6,9 @@ ghost use lib.ListN.{length};
 ghost use denote.Ref.{now};
 ghost use Rattle.book.specs.Limits.{most-states};
 ghost use Rattle.book_file.specs.Table.{below, column, entry, table, table-lawful, table-machine, table-marks};
+use book::limits::TAGS;
 use book::selecting_book::SelectingBook;
 use book::shape_book::ShapeBook;
-
-// Tags are the numbers below.
-const TAGS: u8 = 32;
 
 // A shape book.
 #[derive(Drop)]

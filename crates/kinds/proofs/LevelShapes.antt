@@ -20,7 +20,7 @@ use Rattle.book.specs.Catalogue.{follow, within, over, after, count}
 use Rattle.book.specs.Machines.{plainly, stand, step}
 use Rattle.kinds.specs.Places.{tags-to-from}
 use Rattle.kinds.specs.LevelShape.{level-machine, Level-accepts}
-use Rattle.kinds.proofs.Catalogues.{not-from-broken, within-not-over, over-only-empty, passed, count-grows}
+use Rattle.book.proofs.Nesting.{not-from-broken, within-not-over, over-only-empty, passed, count-grows}
 use Rattle.kinds.proofs.Simulations.{stays}
 
 module _ (d : ℕ) where

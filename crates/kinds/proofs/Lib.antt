@@ -1,4 +1,3 @@
-pub mod Catalogues
 pub mod Simulations
 pub mod Opposites
 pub mod Boths

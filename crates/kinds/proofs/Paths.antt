@@ -26,7 +26,7 @@ use Rattle.book.specs.Catalogue.{follow, within, over, after, count, opened}
 use Rattle.book.specs.Machines.{selecting, marking, stand, step}
 use Rattle.kinds.specs.Places.{tags-to-from}
 use Rattle.kinds.specs.Path.{descends, fits, step-at, member, set-of, set-of-below, keeps, adds, enter-set, matches, hit, miss, path-machine, path-marks, Fits, none-left, next-fits, passed-over, Path-selects}
-use Rattle.kinds.proofs.Catalogues.{not-from-broken, within-not-over, over-only-empty, passed}
+use Rattle.book.proofs.Nesting.{not-from-broken, within-not-over, over-only-empty, passed}
 use Rattle.kinds.proofs.Simulations.{stays}
 
 -- Members of a set ------------------------------------------------------------------------------------------------

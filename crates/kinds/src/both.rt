@@ -3,7 +3,7 @@ ghost use mathlib.Core.Path.{_≡_};
 ghost use Prim.Native.Nat.{_-_, _<_, _≤_};
 ghost use Rattle.book.specs.Limits.{most-states};
 ghost use Rattle.kinds.specs.Both.{both-width, joined, both, both-marks, both-lawful, Both-accepts, Both-selects};
-use crate::limits::MOST_STATES;
+use book::limits::MOST_STATES;
 use book::selecting_book::SelectingBook;
 use book::shape_book::ShapeBook;
 

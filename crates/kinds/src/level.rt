@@ -6,9 +6,9 @@ ghost use Rattle.std.specs.Results.{Cases};
 ghost use Rattle.book.specs.Limits.{most-depth};
 ghost use Rattle.book.specs.declared.fault.BookFault.the-variants.{LevelDepth};
 ghost use Rattle.kinds.specs.LevelShape.{depth-right, level-machine, level-lawful, Level-accepts};
-use crate::limits::MOST_DEPTH;
-use crate::limits::TAGS;
 use book::fault::BookFault;
+use book::limits::MOST_DEPTH;
+use book::limits::TAGS;
 use book::shape_book::ShapeBook;
 
 #[derive(Clone, Copy)]

@@ -2,6 +2,5 @@
 pub mod both;
 pub mod kind_cases;
 pub mod level;
-pub mod limits;
 pub mod opposite;
 pub mod path;

@@ -8,9 +8,9 @@ ghost use Rattle.std.specs.Results.{Cases};
 ghost use Rattle.book.specs.Limits.{most-steps};
 ghost use Rattle.book.specs.declared.fault.BookFault.the-variants.{PathSteps};
 ghost use Rattle.kinds.specs.Path.{step-right, steps-right, path-right, step-of, descends, fits, step-at, member, keeps, adds, enter-set, matches, path-machine, path-marks, take-few, path-lawful, Path-selects};
-use crate::limits::MOST_STEPS;
-use crate::limits::TAGS;
 use book::fault::BookFault;
+use book::limits::MOST_STEPS;
+use book::limits::TAGS;
 use book::selecting_book::SelectingBook;
 use book::shape_book::ShapeBook;
 
