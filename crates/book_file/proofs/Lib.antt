@@ -4,6 +4,7 @@ mod Filled
 mod FirstOff
 mod NamesRead
 mod ReadBack
+mod RightFilled
 mod TablesRead
 mod Unpacked
 mod WasWritten

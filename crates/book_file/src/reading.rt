@@ -8,6 +8,7 @@ ghost use mathlib.Core.Bool.{true};
 ghost use Rattle.std.specs.Vec.{made};
 ghost use Rattle.book_file.specs.Files.{entries, file-with, first-off, header, mark-size, misspelt, name-at, names-at, parted, passed, reading, table-at, tables-at, tables-size};
 ghost use Rattle.name_bytes.specs.Names.{name-byte};
+ghost use Rattle.book_file.specs.Answering.{Answering};
 ghost use Rattle.book_file.specs.Laws.{Written-once};
 ghost use Rattle.book_file.specs.Names.{listed, unpacked};
 ghost use Rattle.book_file.specs.Parts.{Tables-filled, file-of, read-file, rows-of, tables-of};
@@ -300,10 +301,12 @@ fn tables_count(header: Header) -> usize
     states + entries + mark_count(header) + entries + states * header.trees as usize
 }
 
-// The same, with what it says of the bytes: from which file they were written, or that they were written from none.
+// The same, with what it says of the bytes: from which file they were written, or that they were written from none;
+// and of a file, that its book answers from its own tables.
 fn read_written<'a>(bytes: &'a [u8]) -> Result<BookFile<'a>, BookFault>
     ensures value { λ r. ⌜ read-file r ≡ reading (now (bytes .entry)) ⌝ }
     ensures written { λ r. ⌜ Written-once (now (bytes .entry)) (read-file r) ⌝ }
+    ensures answers { λ r. ⌜ made r Answering ⌝ }
 {
     read_parts(bytes)
 }
@@ -312,6 +315,7 @@ fn read_written<'a>(bytes: &'a [u8]) -> Result<BookFile<'a>, BookFault>
 pub fn read_book<'a>(bytes: &'a [u8]) -> Result<BookFile<'a>, BookFault>
     ensures value { λ r. ⌜ read-file r ≡ reading (now (bytes .entry)) ⌝ }
     ensures written { λ r. ⌜ Written-once (now (bytes .entry)) (read-file r) ⌝ }
+    ensures answers { λ r. ⌜ made r Answering ⌝ }
 {
     read_written(bytes)
 }
