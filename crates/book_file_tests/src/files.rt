@@ -20,8 +20,8 @@ fn shortest_file() -> Result<(), Fail> {
     check(book.width() == 1 && book.start() == 0)?;
     check(book.accepts(0) && !book.accepts(1))?;
     check(book.enter(0, 31) == 0 && book.back(0, 0, 0) == 0)?;
-    check(file.names().tag_of(b"a") == 0)?;
-    check(file.names().name_of(1).is_none())
+    check(file.names.tag_of(b"a") == 0)?;
+    check(file.names.name_of(1).is_none())
 }
 
 #[test]
@@ -77,7 +77,7 @@ fn names_and_their_tags() -> Result<(), Fail> {
     let Ok(BookFile::Selecting(file)) = read_book(&SEAL) else {
         return Err(Fail::new("refused"));
     };
-    let names = file.names();
+    let names = file.shape.names;
     check(names.tag_of(b"reel") == 1 && names.tag_of(b"seal") == 2)?;
     check(names.tag_of(b"Reel") == 0 && names.tag_of(b"ree") == 0 && names.tag_of(b"") == 0)?;
     check(names.name_of(0).is_none() && names.name_of(3).is_none())?;
@@ -94,7 +94,7 @@ fn lowest_tag_of_a_name_that_stands_twice() -> Result<(), Fail> {
     let Ok(BookFile::Selecting(file)) = read_book(&bytes) else {
         return Err(Fail::new("refused"));
     };
-    let names = file.names();
+    let names = file.shape.names;
     check(names.tag_of(b"reel") == 1 && names.tag_of(b"seal") == 0)?;
     check(names.name_of(2).is_some())
 }
@@ -123,5 +123,5 @@ fn longest_file(rt: LibcRuntime) -> Result<(), Fail> {
     check(book.width() == 64 && book.start() == 63 && book.accepts(63))?;
     check(book.enter(63, 31) == 63 && book.mark(63, 31) == 63 && book.back(63, 63, 31) == 63)?;
     check(book.enter(63, 32) == 0 && book.enter(64, 31) == 0)?;
-    check(file.names().name_of(31).is_some() && file.names().name_of(32).is_none())
+    check(file.shape.names.name_of(31).is_some() && file.shape.names.name_of(32).is_none())
 }
