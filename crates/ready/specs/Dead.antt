@@ -1,4 +1,4 @@
--- States from which a book can never come to accept: dead ones, within the items where the run stands, and lost ones,
+-- States from which a book can never come to accept: dead ones, within the items where the run stands, and useless ones,
 -- wherever it stands.
 use mathlib.Core.Path.{_≡_}
 use mathlib.Core.Bool.{Bool, true, false}
@@ -24,19 +24,19 @@ Around m (t ∷ ts) [] = ⊥
 Around m (t ∷ ts) (s ∷ ss) = (t < tags) × (s < m .width) × Around m ts ss
 
 -- a run that stands in q, inside some items, has a way on that is accepted
-abbrev pub Hopeful : Machine → ℕ → Type 0
-Hopeful m q = (ts : List ℕ) × (ss : List ℕ) × Around m ts ss × Possible m true ts ss q
+abbrev pub Useful : Machine → ℕ → Type 0
+Useful m q = (ts : List ℕ) × (ss : List ℕ) × Around m ts ss × Possible m true ts ss q
 
 -- q is a state of the book, and a run that stands in it, inside whatever items, has no way on that is accepted
-abbrev pub Lost : Machine → ℕ → Type 0
-Lost m q = (q < m .width) × (Hopeful m q → ⊥)
+abbrev pub Useless : Machine → ℕ → Type 0
+Useless m q = (q < m .width) × (Useful m q → ⊥)
 
--- How hope spreads ------------------------------------------------------------------------------------------------
+-- How useful states are found ---------------------------------------------------------------------------------------
 
--- the close of an item whose inner row ends in p leads to a state of hope, for some outer state and tag
+-- the close of an item whose inner row ends in p leads to a useful state, for some outer state and tag
 abbrev pub Closes : Machine → (ℕ → Bool) → ℕ → Type 0
-Closes m hope p = (s : ℕ) × (s < m .width) × ((t : ℕ) × (t < tags) × (hope (m .back s p t) ≡ true))
+Closes m useful p = (s : ℕ) × (s < m .width) × ((t : ℕ) × (t < tags) × (useful (m .back s p t) ≡ true))
 
--- a row may end in p: p accepts, or its item's close leads to a state of hope
+-- a row may end in p: p accepts, or its item's close leads to a useful state
 abbrev pub Stops : Machine → (ℕ → Bool) → ℕ → Type 0
-Stops m hope p = (m .accepts p ≡ true) ⊎ Closes m hope p
+Stops m useful p = (m .accepts p ≡ true) ⊎ Closes m useful p

@@ -4,15 +4,15 @@ ghost use mathlib.Core.Logic.{_↔_};
 ghost use mathlib.Core.Path.{_≡_};
 ghost use Prim.Native.Nat.{ℕ, _<_};
 ghost use Rattle.book.specs.Tables.{Fits};
-ghost use Rattle.ready.specs.Dead.{Dead, Lost};
+ghost use Rattle.ready.specs.Dead.{Dead, Useless};
 ghost use Rattle.ready.specs.Laws.{Always-answerable, Decides-acceptance, Decides-items, Watchable};
 ghost use Rattle.ready.specs.Pairs.{lies};
 ghost use Rattle.ready.specs.Rounds.{Rows-lead};
 ghost use Rattle.ready.specs.Sets.{has};
-use crate::lost::find_lost;
 use crate::rounds::saturate;
 use crate::state_set::StateSet;
 use crate::table::Table;
+use crate::useless::find_useless;
 use book::shape_book::ShapeBook;
 
 #[derive(Drop)]
@@ -75,10 +75,10 @@ impl<B: ShapeBook> Ready<B> {
     }
 
     // The states of the book from which no way on is accepted, inside whatever items the run stands.
-    pub fn lost_states(&self) -> StateSet
-        ensures { λ r. ⌜ (Rows-lead (B·ShapeBook .machine (now (self .entry) .book)) (lies (now (self .entry) .reach .rows)) → (q : ℕ) → (has (r .words) q ≡ true) ↔ Lost (B·ShapeBook .machine (now (self .entry) .book)) q) ⌝ }
+    pub fn useless_states(&self) -> StateSet
+        ensures { λ r. ⌜ (Rows-lead (B·ShapeBook .machine (now (self .entry) .book)) (lies (now (self .entry) .reach .rows)) → (q : ℕ) → (has (r .words) q ≡ true) ↔ Useless (B·ShapeBook .machine (now (self .entry) .book)) q) ⌝ }
     {
-        find_lost(&self.book, &self.reach)
+        find_useless(&self.book, &self.reach)
     }
 }
 

@@ -4,7 +4,7 @@ ghost use mathlib.Core.Logic.{_↔_};
 ghost use mathlib.Core.Path.{_≡_};
 ghost use Prim.Native.Nat.{ℕ, _<_};
 ghost use Rattle.book.specs.Rows.{Reach};
-ghost use Rattle.ready.specs.Dead.{Dead, Lost};
+ghost use Rattle.ready.specs.Dead.{Dead, Useless};
 ghost use Rattle.ready.specs.Sets.{has};
 use book::shape_book::ShapeBook;
 use ready::ready::make_ready;
@@ -31,11 +31,11 @@ pub fn dead<B: ShapeBook>(book: B, state: u16) -> (B, bool)
 }
 
 // The states of the book from which no way on is accepted, inside whatever items the run stands.
-pub fn lost<B: ShapeBook>(book: B) -> (B, StateSet)
+pub fn useless<B: ShapeBook>(book: B) -> (B, StateSet)
     ensures book { λ r. ⌜ r .0 ≡ book ⌝ }
-    ensures answer { λ r. ⌜ ((q : ℕ) → (has (r .1 .words) q ≡ true) ↔ Lost (B·ShapeBook .machine book) q) ⌝ }
+    ensures answer { λ r. ⌜ ((q : ℕ) → (has (r .1 .words) q ≡ true) ↔ Useless (B·ShapeBook .machine book) q) ⌝ }
 {
     let ready = make_ready(book);
-    let answer = ready.lost_states();
+    let answer = ready.useless_states();
     (ready.hand_back(), answer)
 }

@@ -87,14 +87,20 @@ fn seal_book_five_rows() -> Result<(), Fail> {
     check(ready.is_dead(3) && !ready.is_dead(1) && !ready.is_dead(2))
 }
 
-// No row leads from 0 or 4 to the accepting state, but the close of an item around them may.
+// No row leads from 0, 3 or 4 to the accepting state; but an item around them with outer state 2 leads to it, whatever
+// is inside. Too deep in a level shape is too deep wherever it stands.
 #[test]
-fn dead_inside_an_item_is_not_lost() -> Result<(), Fail> {
-    let ready = make_ready(seal_book());
-    check(ready.is_dead(0) && ready.is_dead(4))?;
-    let lost = ready.lost_states();
-    check(lost.contains(3))?;
-    check(!lost.contains(0) && !lost.contains(1) && !lost.contains(2) && !lost.contains(4))
+fn dead_inside_an_item_may_not_be_useless() -> Result<(), Fail> {
+    let seal = make_ready(seal_book());
+    check(seal.is_dead(0) && seal.is_dead(3) && seal.is_dead(4))?;
+    let useless = seal.useless_states();
+    check(!useless.contains(0) && !useless.contains(3) && !useless.contains(4))?;
+    let Ok(level) = LevelShape::new(3) else {
+        return Err(Fail::new("depth"));
+    };
+    let deep = make_ready(level);
+    let useless = deep.useless_states();
+    check(useless.contains(4) && !useless.contains(3) && !useless.contains(0))
 }
 
 #[test]

@@ -7,8 +7,8 @@ use Rattle.ready.specs.declared.state_set.StateSet.{StateSet}
 use Rattle.ready.specs.Sets.{has}
 use Rattle.ready.specs.Dead.{Stops}
 use Rattle.ready.proofs.Members.{Admitted, admitted-none, admitted-in, admitted-out}
-use Rattle.ready.proofs.lost.all_stops.Needs as need
-use Rattle.ready.proofs.lost.all_stops.Needs.{then-stops, else-stops}
+use Rattle.ready.proofs.useless.all_stops.Needs as need
+use Rattle.ready.proofs.useless.all_stops.Needs.{then-stops, else-stops}
 
 pub loop-state-holds : need.loop-state-holds
 loop-state-holds g c = admitted-none (c .empty-found .result .words) _ (c .empty-found .ensures .none)
@@ -26,9 +26,9 @@ loop-state-again g c =
     ]
   where
     Next : StateSet → Type 0
-    Next s = Admitted (s .words) (c .loop-state .state + 1) (Stops (g .B·ShapeBook .machine (c .args .book .now)) (has (c .args .hope .now .words)))
+    Next s = Admitted (s .words) (c .loop-state .state + 1) (Stops (g .B·ShapeBook .machine (c .args .book .now)) (has (c .args .useful .now .words)))
 
 pub returns : need.returns
 returns g c =
     let e : c .loop-state .state ≡ g .B·ShapeBook .machine (c .args .book .now) .width = omega (arith, c .width-width .ensures) in
-    subst (λ (n : ℕ). Admitted (c .loop-state .found .words) n (Stops (g .B·ShapeBook .machine (c .args .book .now)) (has (c .args .hope .now .words)))) e (c .loop-state .inv)
+    subst (λ (n : ℕ). Admitted (c .loop-state .found .words) n (Stops (g .B·ShapeBook .machine (c .args .book .now)) (has (c .args .useful .now .words)))) e (c .loop-state .inv)

@@ -2,7 +2,7 @@ use Prim.Native.Nat.{_<_}
 use native.Mathlib.Omega.{arith}
 use borrow.Author.Count.{below-more}
 use Rattle.std.proofs.shelf.Tests.{false≢true}
-use Rattle.ready.proofs.lost.closes.Needs as need
+use Rattle.ready.proofs.useless.closes.Needs as need
 
 pub loop-outer-again : need.loop-outer-again
 loop-outer-again g c = below-more _ _ (c .loop-outer .inv) (λ found. false≢true (c .if-closes-from .ensures tt .1 found))

@@ -3,8 +3,8 @@ use mathlib.Core.Path.{_≡_}
 use Prim.Native.Nat.{ℕ, _<_}
 use Rattle.book.specs.Limits.{tags}
 use Rattle.ready.specs.Sets.{has}
-use Rattle.ready.proofs.lost.closes.Given as given
+use Rattle.ready.proofs.useless.closes.Given as given
 
 abbrev pub Inv-loop-outer : given.InvT-loop-outer
 Inv-loop-outer g l =
-    (s : ℕ) → s < l .outer → ((t : ℕ) × (t < tags) × (has (l .hope .words) (g .B·ShapeBook .machine (l .book) .back s (l .inner) t) ≡ true)) → ⊥
+    (s : ℕ) → s < l .outer → ((t : ℕ) × (t < tags) × (has (l .useful .words) (g .B·ShapeBook .machine (l .book) .back s (l .inner) t) ≡ true)) → ⊥

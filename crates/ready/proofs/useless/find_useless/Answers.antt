@@ -8,8 +8,8 @@ use Rattle.book.specs.Limits.{most-states}
 use Rattle.ready.specs.declared.state_set.StateSet.{StateSet}
 use Rattle.ready.specs.Sets.{has}
 use Rattle.ready.proofs.Members.{Admitted, admitted-none, admitted-in, admitted-out}
-use Rattle.ready.proofs.lost.find_lost.Needs as need
-use Rattle.ready.proofs.lost.find_lost.Needs.{then-not-contains, else-not-contains}
+use Rattle.ready.proofs.useless.find_useless.Needs as need
+use Rattle.ready.proofs.useless.find_useless.Needs.{then-not-contains, else-not-contains}
 
 pub loop-state-holds : need.loop-state-holds
 loop-state-holds g c = admitted-none (c .empty-found .result .words) _ (c .empty-found .ensures .none)
@@ -27,16 +27,16 @@ loop-state-again g c =
     ]
   where
     Next : StateSet → Type 0
-    Next s = Admitted (s .words) (c .loop-state .state + 1) (λ q. has (c .find-hope-hope .result .words) q ≡ false)
+    Next s = Admitted (s .words) (c .loop-state .state + 1) (λ q. has (c .find-useful-useful .result .words) q ≡ false)
 
 pub returns : need.returns
 returns g c lead q =
     let m = g .B·ShapeBook .machine (c .args .book .now) in
-    let hope = c .find-hope-hope .ensures lead q in
+    let useful = c .find-useful-useful .ensures lead q in
     let e : c .loop-state .state ≡ m .width = omega (arith, c .width-width .ensures) in (
-      (λ a. let b = c .loop-state .inv q .0 a in (omega (arith, b .0), λ h. both-ways _ (b .1) (hope .1 (omega (arith, b .0), h)))),
+      (λ a. let b = c .loop-state .inv q .0 a in (omega (arith, b .0), λ h. both-ways _ (b .1) (useful .1 (omega (arith, b .0), h)))),
       λ a. c .loop-state .inv q .1 (
         omega (arith, a .0),
-        elim (cases-bool (has (c .find-hope-hope .result .words) q)) [ inl h ↦ absurd (a .1 (hope .0 h .1)) | inr h ↦ h ],
+        elim (cases-bool (has (c .find-useful-useful .result .words) q)) [ inl h ↦ absurd (a .1 (useful .0 h .1)) | inr h ↦ h ],
       ),
     )

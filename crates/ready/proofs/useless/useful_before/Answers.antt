@@ -9,8 +9,8 @@ use Rattle.ready.specs.Pairs.{lies}
 use Rattle.ready.specs.Sets.{has}
 use Rattle.ready.specs.Dead.{Stops}
 use Rattle.ready.proofs.Members.{Admitted, admitted-none, admitted-in, admitted-out}
-use Rattle.ready.proofs.lost.hope_before.Needs as need
-use Rattle.ready.proofs.lost.hope_before.Needs.{then-intersects, else-intersects}
+use Rattle.ready.proofs.useless.useful_before.Needs as need
+use Rattle.ready.proofs.useless.useful_before.Needs.{then-intersects, else-intersects}
 
 pub loop-state-holds : need.loop-state-holds
 loop-state-holds g c = admitted-none (c .empty-found .result .words) _ (c .empty-found .ensures .none)
@@ -35,11 +35,11 @@ loop-state-again g c =
     Next : StateSet → Type 0
     Next s =
         Admitted (s .words) (c .loop-state .state + 1)
-        (λ q. (p : ℕ) × (lies (c .args .reach .now .rows) q p ≡ true) × (p < g .B·ShapeBook .machine (c .args .book .now) .width) × Stops (g .B·ShapeBook .machine (c .args .book .now)) (has (c .args .hope .now .words)) p)
+        (λ q. (p : ℕ) × (lies (c .args .reach .now .rows) q p ≡ true) × (p < g .B·ShapeBook .machine (c .args .book .now) .width) × Stops (g .B·ShapeBook .machine (c .args .book .now)) (has (c .args .useful .now .words)) p)
 
 pub returns : need.returns
 returns g c =
     let m = g .B·ShapeBook .machine (c .args .book .now) in
     let e : c .loop-state .state ≡ m .width = omega (arith, c .width-width .ensures) in
     subst (λ (n : ℕ). Admitted (c .loop-state .found .words) n
-    (λ q. (p : ℕ) × (lies (c .args .reach .now .rows) q p ≡ true) × (p < m .width) × Stops m (has (c .args .hope .now .words)) p)) e (c .loop-state .inv)
+    (λ q. (p : ℕ) × (lies (c .args .reach .now .rows) q p ≡ true) × (p < m .width) × Stops m (has (c .args .useful .now .words)) p)) e (c .loop-state .inv)
