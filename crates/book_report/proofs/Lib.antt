@@ -1,0 +1,2 @@
+mod Described
+mod Members

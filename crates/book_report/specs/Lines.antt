@@ -17,10 +17,11 @@ use Rattle.book.specs.Faults.{fault-number, fault-place}
 use Rattle.book.specs.declared.fault.BookFault.{BookFault}
 use Rattle.book_file.specs.Files.{File, reading}
 use Rattle.book_file.specs.Names.{name-of}
-use Rattle.book_file.specs.Table.{Table}
+use Rattle.book_file.specs.Table.{Table, table-machine}
 use Rattle.book_file.specs.declared.header.Kind.{Kind}
 use Rattle.book_file.specs.declared.header.Kind.the-variants.{Selecting, Shape}
 use Rattle.book_report.specs.declared.report.Report.{Report}
+use Rattle.book_report.specs.Reach.{Shown, or-none}
 use Rattle.printing.specs.Lines.{fact-line, refusal-line}
 
 abbrev pub kind-line : Kind → List ℕ
@@ -36,7 +37,7 @@ accepting-states state [] = []
 accepting-states state (b ∷ bs) = state-word state b ++ accepting-states (suc state) bs
 
 abbrev pub accepting-line : List ℕ → List ℕ
-accepting-line accept = codes "accepting" ++ (accepting-states 0 accept ++ codes "\n")
+accepting-line accept = codes "accepting" ++ (or-none (accepting-states 0 accept) ++ codes "\n")
 
 -- a tag and its name
 abbrev pub name-line : ℕ → Option (List ℕ) → List ℕ
@@ -60,9 +61,10 @@ file-lines f = kind-line (f .kind) ++ shape-lines (f .tables) (f .names)
 abbrev pub fault-line : BookFault → List ℕ
 fault-line e = refusal-line (fault-number e) (valueOr (fault-place e) 0)
 
-abbrev pub description : Result File BookFault → List ℕ
-description (Ok f) = file-lines f
-description (Err e) = fault-line e
+-- The lines of a right file and, behind them, where its states lead; or the line of the refusal.
+abbrev pub Described : Result File BookFault → List ℕ → Type 0
+Described (Ok f) printed = Shown (table-machine (f .tables)) (file-lines f) printed
+Described (Err e) printed = printed ≡ fault-line e
 
 abbrev pub Reports : List ℕ → Report → Type 0
-Reports bs r = (vec-items (r .printed) ≡ description (reading bs)) × (r .refused ≡ isErr (reading bs))
+Reports bs r = Described (reading bs) (vec-items (r .printed)) × (r .refused ≡ isErr (reading bs))

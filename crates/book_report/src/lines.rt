@@ -6,6 +6,7 @@ ghost use Rattle.std.specs.Of.Vec.{vec-items};
 ghost use Rattle.std.specs.Vec.{made};
 ghost use Rattle.book_file.specs.Names.{listed, spelt};
 ghost use Rattle.book_file.specs.Parts.{shape-tables};
+ghost use Rattle.book_report.specs.Reach.{or-none};
 ghost use Rattle.book_report.specs.Lines.{accepting-line, accepting-states, name-line, name-lines, number-lines, shape-lines, state-word};
 use book_file::file::ShapeFile;
 use book_file::names::Names;
@@ -35,11 +36,24 @@ fn add_states(out: &mut Vec<u8>, heap: Global, accept: &[u8]) -> Result<(), Allo
     Ok(())
 }
 
+// The same, or the word none.
+fn add_some_states(out: &mut Vec<u8>, heap: Global, accept: &[u8]) -> Result<(), AllocError>
+    ensures { λ r. ⌜ made r (λ _. vec-items (now (out .exit)) ≡ vec-items (now (out .entry)) ++ or-none (accepting-states 0 (now (accept .entry)))) ⌝ }
+{
+    let before = out.len();
+    add_states(out, heap, accept)?;
+    if out.len() > before {
+        return Ok(());
+    }
+    out.extend_from_slice(b" none")?;
+    Ok(())
+}
+
 fn add_accepting(out: &mut Vec<u8>, heap: Global, accept: &[u8]) -> Result<(), AllocError>
     ensures { λ r. ⌜ made r (λ _. vec-items (now (out .exit)) ≡ vec-items (now (out .entry)) ++ accepting-line (now (accept .entry))) ⌝ }
 {
     out.extend_from_slice(b"accepting")?;
-    add_states(out, heap, accept)?;
+    add_some_states(out, heap, accept)?;
     out.extend_from_slice(b"\n")?;
     Ok(())
 }

@@ -3,12 +3,18 @@ ghost use mathlib.Core.List.{_++_};
 ghost use mathlib.Core.Path.{_≡_};
 ghost use Rattle.std.specs.Of.Vec.{vec-items};
 ghost use Rattle.std.specs.Vec.{made};
+ghost use Rattle.book_file.specs.Answering.{Answering};
 ghost use Rattle.book_file.specs.Parts.{file-of};
+ghost use Rattle.book_file.specs.Table.{table-machine};
+ghost use Rattle.book_report.specs.Reach.{Shown};
 ghost use Rattle.book_report.specs.Lines.{Reports, fault-line, file-lines};
 use crate::lines::add_shape;
+use crate::reach::add_book;
 use book::fault::BookFault;
 use book_file::file::BookFile;
 use book_file::reading::read_book;
+use book_file::table::SelectingTableShape;
+use book_file::table::TableShape;
 use printing::add_refusal;
 use std::alloc::AllocError;
 use std::alloc::Global;
@@ -21,17 +27,20 @@ pub struct Report {
 }
 
 fn add_file(out: &mut Vec<u8>, heap: Global, file: &BookFile) -> Result<(), AllocError>
-    ensures { λ r. ⌜ made r (λ _. vec-items (now (out .exit)) ≡ vec-items (now (out .entry)) ++ file-lines (file-of (now (file .entry)))) ⌝ }
+    requires { ⌜ Answering (now file) ⌝ }
+    ensures { λ r. ⌜ made r (λ _. Shown (table-machine (file-of (now (file .entry)) .tables)) (vec-items (now (out .entry)) ++ file-lines (file-of (now (file .entry)))) (vec-items (now (out .exit)))) ⌝ }
 {
     match file {
         BookFile::Shape(file) => {
             out.extend_from_slice(b"kind shape\n")?;
             add_shape(out, heap, file)?;
+            add_book(out, heap, file.book())?;
             Ok(())
         }
         BookFile::Selecting(file) => {
             out.extend_from_slice(b"kind selecting\n")?;
             add_shape(out, heap, &file.shape)?;
+            add_book(out, heap, file.book())?;
             Ok(())
         }
     }
