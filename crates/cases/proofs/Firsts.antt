@@ -1,7 +1,7 @@
 -- The first event after which an item is due or dropped: what is decided stays decided, so one look back is enough.
 use mathlib.Core.Path.{_≡_, sym, ap, subst, _∙_}
 use mathlib.Core.List.{List, _++_}
-use Prim.Native.Nat.{ℕ, suc, _≤_, _<_}
+use Prim.Native.Nat.{ℕ, suc, _≤_}
 use native.Mathlib.Omega.{arith}
 use lib.ListN.{take, drop, take-append-drop}
 use Rattle.std.proofs.shelf.Lists.{take-take}

@@ -9,13 +9,13 @@ use lib.ListN.{take}
 use Rattle.book.specs.Limits.{most-states}
 use Rattle.book.specs.declared.event.Event.{Event}
 use Rattle.book.specs.Catalogue.{nest, within, opened, Sound}
-use Rattle.book.specs.Machines.{Machine, Marks, Selecting, Lawful, LawfulMarks, selecting, selected}
+use Rattle.book.specs.Machines.{Machine, Marks, Lawful, LawfulMarks, selecting, selected}
 use Rattle.book.specs.Orders.{Opened, Due, Dropped, Held}
 use Rattle.book.proofs.Nesting.{within-not-broken}
 use Rattle.book.proofs.Selections.{opened-on}
 use Rattle.book.proofs.Earliest.{due-opened, not-two}
 use Rattle.kinds.specs.Opposite.{opposite, opposite-lawful, opposite-marks-lawful}
-use Rattle.kinds.specs.Both.{both, both-marks, Product-fits}
+use Rattle.kinds.specs.Both.{both, both-marks}
 use Rattle.kinds.specs.KindCases.{Kind-cases, either-way}
 use Rattle.kinds.proofs.Opposites.{opposite-selects}
 use Rattle.kinds.proofs.Boths.{both-selects}

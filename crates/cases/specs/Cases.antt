@@ -3,13 +3,19 @@ use mathlib.Core.Path.{_≡_}
 use mathlib.Core.List.{List, [], _∷_}
 use mathlib.Core.Logic.{_⊎_}
 use Prim.Native.Nat.{ℕ, suc, _<_}
-use lib.ListN.{length, take}
+use lib.ListN.{length, replicate, take}
 use Rattle.std.specs.declared.result.Result.the-variants.{Ok}
 use Rattle.book.specs.declared.event.Event.{Event}
+use Rattle.book.specs.declared.event.Event.the-variants.{Open, Close, End}
+use Rattle.book.specs.declared.answer.Refusal.{Refusal}
+use Rattle.book.specs.Limits.{least-room}
 use Rattle.book.specs.Catalogue.{Catalogue}
 use Rattle.book.specs.Machines.{Machine, Marks, Selecting, Lawful, LawfulMarks, selecting}
 use Rattle.book.specs.Orders.{Due, Dropped, Held}
 use Rattle.book.specs.ItemLists.{Lists, Counts}
+use Rattle.book.specs.Refusals.{number}
+use Rattle.book.specs.Checks.{Accepts, Refuses}
+use Rattle.book.specs.Promise.{Newly-due, order}
 use Rattle.book_file.specs.Files.{reading}
 use Rattle.kinds.specs.Opposite.{opposite}
 use Rattle.kinds.specs.Both.{both, both-marks, Product-fits}
@@ -19,8 +25,8 @@ use Rattle.cases.specs.Seal.{seal-bytes, seal-file, seal, boxed}
 -- Words -----------------------------------------------------------------------------------------------------------
 
 -- after the events h just these items are held, these due and these dropped, each list by rising number
-abbrev pub Told : Selecting → List Event → List ℕ → List ℕ → List ℕ → Type 0
-Told m h held due dropped = Lists (Held m h) held × Lists (Due m h) due × Lists (Dropped m h) dropped
+abbrev pub Items-are : Selecting → List Event → List ℕ → List ℕ → List ℕ → Type 0
+Items-are m h held due dropped = Lists (Held m h) held × Lists (Due m h) due × Lists (Dropped m h) dropped
 
 -- of the events c, the n-th is the first after which it holds
 abbrev pub First-at : (List Event → Type 0) → List Event → ℕ → Type 0
@@ -40,20 +46,23 @@ pub record Seal-cases : Type 0 where
   -- The nine events are a whole catalogue: the box is item 1, the reels are 2 and 4, the seal is 3.
   pub whole : Catalogue boxed
   -- what is held, due and dropped after each event
-  pub after-1 : Told seal (take 1 boxed) [] [] (1 ∷ [])
-  pub after-2 : Told seal (take 2 boxed) (2 ∷ []) [] (1 ∷ [])
-  pub after-3 : Told seal (take 3 boxed) (2 ∷ []) [] (1 ∷ [])
-  pub after-4 : Told seal (take 4 boxed) [] (2 ∷ []) (1 ∷ 3 ∷ [])
-  pub after-5 : Told seal (take 5 boxed) [] (2 ∷ []) (1 ∷ 3 ∷ [])
-  pub after-6 : Told seal (take 6 boxed) (4 ∷ []) (2 ∷ []) (1 ∷ 3 ∷ [])
-  pub after-7 : Told seal (take 7 boxed) (4 ∷ []) (2 ∷ []) (1 ∷ 3 ∷ [])
-  pub after-8 : Told seal (take 8 boxed) [] (2 ∷ []) (1 ∷ 3 ∷ 4 ∷ [])
-  pub after-9 : Told seal (take 9 boxed) [] (2 ∷ []) (1 ∷ 3 ∷ 4 ∷ [])
+  pub after-1 : Items-are seal (take 1 boxed) [] [] (1 ∷ [])
+  pub after-2 : Items-are seal (take 2 boxed) (2 ∷ []) [] (1 ∷ [])
+  pub after-3 : Items-are seal (take 3 boxed) (2 ∷ []) [] (1 ∷ [])
+  pub after-4 : Items-are seal (take 4 boxed) [] (2 ∷ []) (1 ∷ 3 ∷ [])
+  pub after-5 : Items-are seal (take 5 boxed) [] (2 ∷ []) (1 ∷ 3 ∷ [])
+  pub after-6 : Items-are seal (take 6 boxed) (4 ∷ []) (2 ∷ []) (1 ∷ 3 ∷ [])
+  pub after-7 : Items-are seal (take 7 boxed) (4 ∷ []) (2 ∷ []) (1 ∷ 3 ∷ [])
+  pub after-8 : Items-are seal (take 8 boxed) [] (2 ∷ []) (1 ∷ 3 ∷ 4 ∷ [])
+  pub after-9 : Items-are seal (take 9 boxed) [] (2 ∷ []) (1 ∷ 3 ∷ 4 ∷ [])
   -- how many are held after each
   pub numbers-held : Held-numbers seal boxed 1 (0 ∷ 1 ∷ 1 ∷ 0 ∷ 0 ∷ 1 ∷ 1 ∷ 0 ∷ 0 ∷ [])
   -- the first reel is due at the open of the seal; the second is dropped at the close of the box
   pub ordered-at : First-at (λ h. Due seal h 2) boxed 4
   pub dropped-at : First-at (λ h. Dropped seal h 4) boxed 8
+  -- so a scan orders it, and no other item, at event 4, with this record
+  pub orders : Lists (Newly-due seal (take 3 boxed) (Open 2)) (2 ∷ [])
+  pub recorded : order (take 4 boxed) 2 ≡ record { item = 2; opened = 2; ordered = 4 }
   -- plausible but false: the first reel is due only at the close of the seal
   pub not-at-close : First-at (λ h. Due seal h 2) boxed 5 → ⊥
 
@@ -87,9 +96,27 @@ pub record Layer-cases : Type 0 where
   -- plausible but false: a both is decided by each half by itself
   pub not-by-halves : Halves-decide → ⊥
 
+-- Calls of a scan -------------------------------------------------------------------------------------------------
+
+-- the call e, lent a list that is just long enough, is refused after the events h with the number n
+abbrev pub Refused-with : Selecting → List Event → Event → ℕ → Type 0
+Refused-with m h e n = (r : Refusal) × Refuses m h least-room e r × (number r ≡ n)
+
+pub record Call-cases (m : Selecting) : Type 0 where
+  -- inside 63 items a 64th is opened; a 65th gets 5
+  pub sixty-fourth : Accepts m (replicate 63 (Open 0)) least-room (Open 0)
+  pub sixty-fifth : Refused-with m (replicate 64 (Open 0)) (Open 0) 5
+  -- the end may come first, and orders nothing; then an open gets 2
+  pub end-first : Accepts m [] least-room End
+  pub no-orders : Lists (Newly-due m [] End) []
+  pub open-after : (t : ℕ) → Refused-with m (End ∷ []) (Open t) 2
+  -- a close of tag 2 gets 9 where an item of tag 1 is open, and 8 where none is
+  pub other-open : Refused-with m (Open 1 ∷ []) (Close 2) 9
+  pub none-open : Refused-with m [] (Close 2) 8
+
 -- All together ----------------------------------------------------------------------------------------------------
 
 -- The path book of child any and descendant 1, and the widths of a both (Kind-cases); the seal book on its catalogue;
--- and the opposite over both over its opposite and itself.
+-- the opposite over both over its opposite and itself; and single calls on any selecting book with states.
 abbrev pub Worked-cases : Type 0
-Worked-cases = Kind-cases × Seal-cases × Layer-cases
+Worked-cases = Kind-cases × Seal-cases × Layer-cases × ((m : Selecting) → 0 < m .shape .width → Call-cases m)

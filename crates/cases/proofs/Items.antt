@@ -15,14 +15,14 @@ use Rattle.book.proofs.Nesting.{within-not-broken}
 use Rattle.book.proofs.Selections.{selected-opened}
 use Rattle.book.proofs.Tables.{tables-decide-item}
 use Rattle.book.proofs.Earliest.{due-opened, not-two, end-decides}
-use Rattle.cases.specs.Cases.{Told}
+use Rattle.cases.specs.Cases.{Items-are}
 use Rattle.cases.proofs.Picks.{picks, lists-picks}
 
 -- can item i be selected (b true), or left out (b false), inside items with the tags ts?
 abbrev pub can : Selecting → (ℕ → ℕ → Bool) → List Event → List ℕ → ℕ → Bool → Bool
 can m reach h ts i b = may-end reach (m .shape) ts (run (m .shape) (marking m i) h) b
 
--- the two tests, and what they say ------------------------------------------------------------------------------
+-- The two tests, and what they say --------------------------------------------------------------------------------
 
 module _ (m : Selecting) (h : List Event) (i : ℕ) (apart : Not-two m h i) where
   held-if : (y n : Bool) → Decided m h i y n → ((y && n) ≡ true) ↔ Held m h i
@@ -43,16 +43,16 @@ module _ (m : Selecting) (h : List Event) (i : ℕ) (apart : Not-two m h i) wher
   dropped-if false true d = (λ _. d, λ _. refl)
   dropped-if false false d = absurd d
 
--- inside the catalogue --------------------------------------------------------------------------------------------
+-- Inside the catalogue --------------------------------------------------------------------------------------------
 
 module _ (m : Selecting) (reach : ℕ → ℕ → Bool) (law : Lawful (m .shape)) (marks : LawfulMarks (m .shape) (m .mark)) (some : 0 < m .shape .width)
     (fits : Fits (m .shape) reach) where
-  pub told-within : (h : List Event) (ts : List ℕ) → nest h ≡ within ts →
-      Told m h
+  pub items-within : (h : List Event) (ts : List ℕ) → nest h ≡ within ts →
+      Items-are m h
       (picks (λ i. can m reach h ts i true && can m reach h ts i false) 0 (opened h))
       (picks (λ i. can m reach h ts i true && not (can m reach h ts i false)) 0 (opened h))
       (picks (λ i. not (can m reach h ts i true) && can m reach h ts i false) 0 (opened h))
-  told-within h ts at = (
+  items-within h ts at = (
     lists-picks (Held m h) h _ (λ i x. x .0) (λ i o. held-if m h i (not-two m h i sound) (can m reach h ts i true) (can m reach h ts i false) (by-tests i o)),
     lists-picks (Due m h) h _ (λ i x. due-opened m h i sound x) (λ i o. due-if m h i (not-two m h i sound) (can m reach h ts i true) (can m reach h ts i false) (by-tests i o)),
     lists-picks (Dropped m h) h _ (λ i x. x .0) (λ i o. dropped-if m h i (not-two m h i sound) (can m reach h ts i true) (can m reach h ts i false) (by-tests i o)),
@@ -64,11 +64,11 @@ module _ (m : Selecting) (reach : ℕ → ℕ → Bool) (law : Lawful (m .shape)
       by-tests : (i : ℕ) → Opened h i → Decided m h i (can m reach h ts i true) (can m reach h ts i false)
       by-tests i o = tables-decide-item m reach law marks some fits h i ts at o
 
--- after the end ---------------------------------------------------------------------------------------------------
+-- After the end ---------------------------------------------------------------------------------------------------
 
-pub told-over : (m : Selecting) (h : List Event) → nest h ≡ over →
-    Told m h [] (picks (λ i. selected m i h) 0 (opened h)) (picks (λ i. not (selected m i h)) 0 (opened h))
-told-over m h fin = (
+pub items-over : (m : Selecting) (h : List Event) → nest h ≡ over →
+    Items-are m h [] (picks (λ i. selected m i h) 0 (opened h)) (picks (λ i. not (selected m i h)) 0 (opened h))
+items-over m h fin = (
   (tt, λ i. (λ y. absurd y, λ x. end-decides m h i fin .2 x)),
   lists-picks (Due m h) h _ (λ i x. selected-opened m i h (end-decides m h i fin .0 .0 x)) (λ i o. (λ e. end-decides m h i fin .0 .1 e, λ x. end-decides m h i fin .0 .0 x)),
   lists-picks (Dropped m h) h _ (λ i x. x .0)
