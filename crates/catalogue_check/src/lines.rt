@@ -12,6 +12,7 @@ ghost use mathlib.Core.List.{_++_};
 ghost use mathlib.Core.Path.{_≡_};
 use markup::ReaderFault;
 use markup::Token;
+use printing::add_number;
 use std::alloc::AllocError;
 use std::alloc::Global;
 
@@ -22,14 +23,6 @@ fn add_indent(out: &mut Vec<u8>, depth: usize) -> Result<(), AllocError>
     for level in 0..depth {
         out.extend_from_slice(b"  ")?;
     }
-    Ok(())
-}
-
-fn add_number(out: &mut Vec<u8>, heap: Global, n: usize) -> Result<(), AllocError>
-    ensures { λ r. ⌜ made r (λ _. vec-items (now (out .exit)) ≡ vec-items (now (out .entry)) ++ decimal n) ⌝ }
-{
-    let digits = n.to_string(heap)?;
-    out.extend_from_slice(digits.as_bytes())?;
     Ok(())
 }
 
@@ -76,7 +69,11 @@ fn add_tag(
 }
 
 // The lines of all tags.
-pub fn add_tags(out: &mut Vec<u8>, heap: Global, tags: &[Token<'_>]) -> Result<(), AllocError>
+pub(crate) fn add_tags(
+    out: &mut Vec<u8>,
+    heap: Global,
+    tags: &[Token<'_>],
+) -> Result<(), AllocError>
     ensures { λ r. ⌜ made r (λ _. vec-items (now (out .exit)) ≡ vec-items (now (out .entry)) ++ token-lines 0 (now (tags .entry))) ⌝ }
 {
     let mut depth: usize = 0;
@@ -87,7 +84,7 @@ pub fn add_tags(out: &mut Vec<u8>, heap: Global, tags: &[Token<'_>]) -> Result<(
 }
 
 // How many tags there were, or where the text is refused.
-pub fn add_last_line(
+pub(crate) fn add_last_line(
     out: &mut Vec<u8>,
     heap: Global,
     count: usize,

@@ -159,23 +159,23 @@ pub fn stairs_book(width: u8) -> SampleBook
 pub fn ring_book(width: u8) -> SampleBook
     ensures { λ r. ⌜ r .width ≡ max (min width most-states) 1 ⌝ }
 {
-    let states = width.min(64).max(1) as usize;
+    let ring = width.min(64).max(1) as usize;
     let mut accept = [false; STATES];
     let mut enter = [0u8; BY_TAG];
     let mut up = [0u8; BY_TAG];
     let mut side = [0u8; BY_STATE];
-    for state in 0..states {
+    for state in 0..ring {
         for tag in 0..TAGS {
-            enter[state * TAGS + tag] = ((state + 1) % states) as u8;
+            enter[state * TAGS + tag] = ((state + 1) % ring) as u8;
             up[state * TAGS + tag] = state as u8;
         }
-        for inner in 0..states {
+        for inner in 0..ring {
             side[state * STATES + inner] = inner as u8;
         }
     }
     accept[0] = true;
     SampleBook {
-        width: states as u16,
+        width: ring as u16,
         accept,
         enter,
         up,

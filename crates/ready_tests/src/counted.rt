@@ -19,7 +19,7 @@ pub struct Counted<B> {
 }
 
 impl<B> Counted<B> {
-    pub fn new(book: B) -> Counted<B> {
+    pub(crate) fn new(book: B) -> Counted<B> {
         Counted {
             book,
             enters: Cell::new(0),
@@ -29,15 +29,15 @@ impl<B> Counted<B> {
         }
     }
 
-    pub fn enters(&self) -> u32 {
+    pub(crate) fn enters(&self) -> u32 {
         self.enters.get()
     }
 
-    pub fn backs(&self) -> u32 {
+    pub(crate) fn backs(&self) -> u32 {
         self.backs.get()
     }
 
-    pub fn asked_again(&self) -> bool {
+    pub(crate) fn asked_again(&self) -> bool {
         self.again.get()
     }
 
