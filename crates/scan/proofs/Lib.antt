@@ -1,0 +1,7 @@
+pub mod Tracks
+pub mod Judging
+pub mod Tests
+pub mod Holdings
+pub mod Opening
+pub mod Pending
+pub mod Standing

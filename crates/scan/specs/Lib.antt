@@ -1,0 +1,4 @@
+pub mod Tracks
+pub mod Tests
+pub mod Model
+pub mod Standing
