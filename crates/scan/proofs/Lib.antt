@@ -5,3 +5,4 @@ pub mod Holdings
 pub mod Opening
 pub mod Pending
 pub mod Standing
+pub mod Watching

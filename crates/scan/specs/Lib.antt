@@ -2,3 +2,4 @@ pub mod Tracks
 pub mod Tests
 pub mod Model
 pub mod Standing
+pub mod Watching

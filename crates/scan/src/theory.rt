@@ -1,7 +1,8 @@
-// The scan over lists keeps the promise. The calls do nothing: their contracts are the laws.
+// The scan and the watch over lists keep their promises. The calls do nothing: their contracts are the laws.
 ghost use Rattle.scan.specs.Standing.{Begins-right, Steps-right};
+ghost use Rattle.scan.specs.Watching.{Watch-begins-right, Watch-steps-right};
 
-// Before any event it stands for no events and no orders.
+// Before any event the scan over lists stands for no events and no orders.
 pub fn begins_right_stands() -> u8
     ensures { λ _. ⌜ Begins-right ⌝ }
 {
@@ -11,6 +12,19 @@ pub fn begins_right_stands() -> u8
 // Each call of it keeps the promise, and it stands after the call.
 pub fn steps_right_stands() -> u8
     ensures { λ _. ⌜ Steps-right ⌝ }
+{
+    0
+}
+
+// The same of the watch over lists.
+pub fn watch_begins_right_stands() -> u8
+    ensures { λ _. ⌜ Watch-begins-right ⌝ }
+{
+    0
+}
+
+pub fn watch_steps_right_stands() -> u8
+    ensures { λ _. ⌜ Watch-steps-right ⌝ }
 {
     0
 }
