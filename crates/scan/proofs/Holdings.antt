@@ -1,15 +1,14 @@
 -- Lists of holdings: their items, and those that pass a test. Assumes nothing.
-use mathlib.Core.Path.{_≡_, refl, sym, ap, subst, _∙_}
+use mathlib.Core.Path.{_≡_, refl, sym, ap, subst}
 use mathlib.Core.Bool.{Bool, true, false, cond}
 use mathlib.Core.List.{List, [], _∷_, _++_, map}
 use mathlib.Core.Logic.{_↔_, _⊎_, inl, inr}
-use Prim.Native.Nat.{ℕ, _≤_, _<_}
+use Prim.Native.Nat.{ℕ, _≤_}
 use native.Mathlib.Omega.{arith}
 use lib.ListN.{length}
 use Rattle.std.specs.shelf.Lists.{kept-by}
 use Rattle.std.proofs.shelf.Tests.{both-ways}
 use Rattle.book.specs.declared.event.Event.{Event}
-use Rattle.book.specs.declared.answer.Order.{Order}
 use Rattle.book.specs.Machines.{Machine}
 use Rattle.book.specs.ItemLists.{In, Rising}
 use Rattle.book.specs.Promise.{opening, order}

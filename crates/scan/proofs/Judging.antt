@@ -1,7 +1,7 @@
 -- Two tests on a track that follows its run say what the endings answer. Assumes nothing.
 use mathlib.Core.Path.{_≡_, refl, sym, ap, subst, _∙_}
 use mathlib.Core.Bool.{Bool, true, false, cond, not, _&&_}
-use mathlib.Core.List.{List, [], _∷_, _++_, map}
+use mathlib.Core.List.{List, [], _∷_, _++_}
 use mathlib.Core.Logic.{_↔_}
 use Prim.Native.Nat.{ℕ, _<_}
 use native.Mathlib.Omega.{arith}
@@ -11,7 +11,7 @@ use Rattle.book.specs.declared.event.Event.{Event}
 use Rattle.book.specs.declared.event.Event.the-variants.{Open, Close, End}
 use Rattle.book.specs.Limits.{tags}
 use Rattle.book.specs.Catalogue.{Nest, within, over, broken, after, nest, Sound}
-use Rattle.book.specs.Machines.{Machine, Selecting, Lawful, LawfulMarks, Entering, Stand, run, plainly, marking, accepted, selected}
+use Rattle.book.specs.Machines.{Machine, Selecting, Lawful, LawfulMarks, Entering, run, plainly, marking, accepted, selected}
 use Rattle.book.specs.Levels.{Levels-tell}
 use Rattle.book.specs.Orders.{Opened, Due, Held}
 use Rattle.book.specs.Tables.{Fits, possible, may-end, Two-tests, Decided}

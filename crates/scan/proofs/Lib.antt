@@ -6,3 +6,4 @@ pub mod Opening
 pub mod Pending
 pub mod Standing
 pub mod Watching
+pub mod Runs

@@ -23,7 +23,7 @@ use Rattle.book.proofs.Earliest.{due-opened, due-on, dropped-on, not-two, one-o
 use Rattle.book.proofs.Exchanges.{map-append}
 use Rattle.book.proofs.Exact.{plus}
 use Rattle.book.proofs.Steps.{nest-more, opened-more, run-opens-new}
-use Rattle.scan.specs.Tracks.{Track, entered, may, Follows}
+use Rattle.scan.specs.Tracks.{entered, may, Follows}
 use Rattle.scan.specs.Model.{Holding, Model, onward, fresh, pending, is-due, is-held, due-at, held-at}
 use Rattle.scan.specs.Standing.{Held-right, All, item-in, Stands}
 use Rattle.scan.proofs.Tracks.{follows-enter, run-follows}

@@ -1,8 +1,8 @@
 -- One step of the scan over lists keeps the promise, and it stands after it. Assumes nothing.
 use mathlib.Core.Path.{_≡_, refl, sym, ap, subst, _∙_}
-use mathlib.Core.Bool.{Bool, true, cond}
+use mathlib.Core.Bool.{Bool, cond}
 use mathlib.Core.List.{List, [], _∷_, _++_, map}
-use mathlib.Core.Logic.{_↔_, _≢_, inl, inr}
+use mathlib.Core.Logic.{_≢_, inl, inr}
 use Prim.Native.Nat.{ℕ, suc, _+_, _≤_, _<_}
 use native.Mathlib.Omega.{arith}
 use lib.Dec.{ltb}
@@ -15,14 +15,14 @@ use Rattle.book.specs.declared.event.Event.the-variants.{Open, Close, End}
 use Rattle.book.specs.declared.answer.Order.{Order}
 use Rattle.book.specs.declared.answer.Totals.{Totals}
 use Rattle.book.specs.declared.answer.Refusal.{Refusal}
-use Rattle.book.specs.declared.answer.Refusal.the-variants.{NoStates, Ended, ShortList, BadTag, TooDeep, TooMany, HoldFull, NoneOpen, OtherTag, StillOpen}
+use Rattle.book.specs.declared.answer.Refusal.the-variants.{NoStates, Ended, BadTag, TooDeep, TooMany, HoldFull, NoneOpen, OtherTag, StillOpen}
 use Rattle.book.specs.Limits.{tags, most-held, least-room}
 use Rattle.book.specs.Catalogue.{Nest, within, over, broken, after, nest, Sound, count}
 use Rattle.book.specs.Machines.{Selecting, Lawful, LawfulMarks, plainly}
 use Rattle.book.specs.Orders.{Dropped, Held}
 use Rattle.book.specs.Tables.{Fits}
 use Rattle.book.specs.ItemLists.{Counts}
-use Rattle.book.specs.Checks.{scan-lines, On-open, Shared-met, Overfull, Met, Accepts}
+use Rattle.book.specs.Checks.{scan-lines, Overfull, Met, Accepts}
 use Rattle.book.specs.Promise.{Exchange, exchange, opening, with-orders, Keeps}
 use Rattle.book.specs.PromiseLaws.{with-event}
 use Rattle.book.specs.Shown.{Just-due, Shown}
@@ -32,7 +32,7 @@ use Rattle.book.proofs.Nesting.{within-not-broken}
 use Rattle.book.proofs.Checks.{accepted-sound, unmet}
 use Rattle.book.proofs.Exact.{plus, exact-none, exact-on, orders-so-far, shown-is-enough}
 use Rattle.book.proofs.Steps.{nest-more, opened-more}
-use Rattle.scan.specs.Model.{Holding, Model, pending, is-due, is-held, due-at, held-at, next, begun, test, totals, answer, list-after, model-after}
+use Rattle.scan.specs.Model.{Holding, Model, pending, is-due, is-held, due-at, held-at, next, test, totals, answer, list-after, model-after}
 use Rattle.scan.specs.Standing.{Held-right, item-in, Stands, Step-kept, Begins-right, Steps-right}
 use Rattle.scan.proofs.Tracks.{first-follows, run-follows}
 use Rattle.scan.proofs.Holdings.{all-so, all-kept, notes-are}

@@ -3,3 +3,4 @@ pub mod Tests
 pub mod Model
 pub mod Standing
 pub mod Watching
+pub mod Runs
