@@ -6,38 +6,29 @@ use mathlib.Core.Logic.{_↔_, _⊎_, inl, inr}
 use Prim.Native.Nat.{ℕ, _≤_}
 use native.Mathlib.Omega.{arith}
 use lib.ListN.{length}
-use Rattle.std.specs.shelf.Lists.{kept-by}
+use Rattle.std.specs.shelf.Lists.{All, kept-by}
+use Rattle.std.proofs.shelf.Elements.{all-weaker}
 use Rattle.std.proofs.shelf.Tests.{both-ways}
 use Rattle.book.specs.declared.event.Event.{Event}
 use Rattle.book.specs.Machines.{Machine}
 use Rattle.book.specs.ItemLists.{In, Rising}
 use Rattle.book.specs.Promise.{opening, order}
 use Rattle.scan.specs.Model.{Holding, onward, note}
-use Rattle.scan.specs.Standing.{All, item-in}
+use Rattle.scan.specs.Standing.{item-in}
+
+-- Items -----------------------------------------------------------------------------------------------------------
 
 pub items-onward : (reach : ℕ → ℕ → Bool) (m : Machine) (e : Event) (xs : List Holding) → map item-in (map (onward reach m e) xs) ≡ map item-in xs
 items-onward reach m e [] = refl
 items-onward reach m e (x ∷ xs) = ap (λ (r : List ℕ). x .item ∷ r) (items-onward reach m e xs)
 
-pub all-map : (P Q : Holding → Type 0) (f : Holding → Holding) (xs : List Holding) → ((x : Holding) → In (item-in x) (map item-in xs) → P x → Q (f x)) → All P xs → All Q (map f xs)
-all-map P Q f [] g a = tt
-all-map P Q f (x ∷ xs) g a = (g x (inl refl) (a .0), all-map P Q f xs (λ y i p. g y (inr i) p) (a .1))
-
-pub all-so : (P Q : Holding → Type 0) (xs : List Holding) → ((x : Holding) → In (item-in x) (map item-in xs) → P x → Q x) → All P xs → All Q xs
-all-so P Q [] g a = tt
-all-so P Q (x ∷ xs) g a = (g x (inl refl) (a .0), all-so P Q xs (λ y i p. g y (inr i) p) (a .1))
-
-pub all-append : (P : Holding → Type 0) (xs ys : List Holding) → All P xs → All P ys → All P (xs ++ ys)
-all-append P [] ys a b = b
-all-append P (x ∷ xs) ys a b = (a .0, all-append P xs ys (a .1) b)
-
-pub all-kept : (P : Holding → Type 0) (p : Holding → Bool) (xs : List Holding) → All P xs → All P (kept-by p xs)
-all-kept P p [] a = tt
-all-kept P p (x ∷ xs) a = go (p x) (all-kept P p xs (a .1))
-  where
-    go : (b : Bool) → All P (kept-by p xs) → All P (cond b (x ∷ kept-by p xs) (kept-by p xs))
-    go true r = (a .0, r)
-    go false r = r
+-- each holding is one of them
+pub all-listed : (P : Holding → Type 0) (xs : List Holding) → All P xs → All (λ x. In (item-in x) (map item-in xs) × P x) xs
+all-listed P [] a = tt
+all-listed P (x ∷ xs) a = (
+  (inl refl, a .0),
+  all-weaker (λ y. In (item-in y) (map item-in xs) × P y) (λ y. In (item-in y) (map item-in (x ∷ xs)) × P y) (λ y r. (inr (r .0), r .1)) xs (all-listed P xs (a .1)),
+)
 
 -- the items of those that pass a test, where the test tells what P says
 pub kept-in : (p : Holding → Bool) (P : ℕ → Type 0) (xs : List Holding) → All (λ x. (p x ≡ true) ↔ P (x .item)) xs → (i : ℕ) → In i (map item-in (kept-by p xs)) ↔ (In i (map item-in xs) × P i)
@@ -55,7 +46,9 @@ kept-in p P (x ∷ xs) a i = go (p x) refl (kept-in p P xs (a .1) i)
       λ z. elim (z .0) [ inl q ↦ absurd (both-ways (p x) e (a .0 .1 (subst P q (z .1)))) | inr y ↦ ih .1 (y, z .1) ],
     )
 
-pub rising-lower : (low k : ℕ) (xs : List ℕ) → low ≤ k → Rising k xs → Rising low xs
+-- Rising numbers --------------------------------------------------------------------------------------------------
+
+rising-lower : (low k : ℕ) (xs : List ℕ) → low ≤ k → Rising k xs → Rising low xs
 rising-lower low k [] le r = tt
 rising-lower low k (x ∷ xs) le r = ((let a = r .0 in omega arith), r .1)
 
@@ -70,6 +63,8 @@ kept-rising p low (x ∷ xs) r = go (p x) (kept-rising p (x .item) xs (r .1))
     go : (b : Bool) → Rising (x .item) (map item-in (kept-by p xs)) → Rising low (map item-in (cond b (x ∷ kept-by p xs) (kept-by p xs)))
     go true y = (r .0, y)
     go false y = rising-lower low (x .item) (map item-in (kept-by p xs)) (let a = r .0 in omega arith) y
+
+-- Records ---------------------------------------------------------------------------------------------------------
 
 -- the records of orders at the last event
 pub notes-are : (now : List Event) (n : ℕ) (xs : List Holding) → n ≡ length now → All (λ x. x .since ≡ opening (x .item) now) xs → map (note n) xs ≡ map (order now) (map item-in xs)

@@ -6,6 +6,8 @@ use mathlib.Core.Logic.{_↔_, inl, inr}
 use Prim.Native.Nat.{ℕ, suc, _≤_, _<_}
 use native.Mathlib.Omega.{arith}
 use lib.Dec.{ltb}
+use Rattle.std.specs.shelf.Lists.{All}
+use Rattle.std.proofs.shelf.Elements.{all-weaker, all-map, all-append}
 use Rattle.std.proofs.shelf.Tests.{ne-eqb, cases-lt}
 use Rattle.book.specs.declared.event.Event.{Event}
 use Rattle.book.specs.declared.event.Event.the-variants.{Open, Close, End}
@@ -23,12 +25,12 @@ use Rattle.book.proofs.Earliest.{due-opened, due-on, dropped-on, not-two, one-o
 use Rattle.book.proofs.Exchanges.{map-append}
 use Rattle.book.proofs.Exact.{plus}
 use Rattle.book.proofs.Steps.{nest-more, opened-more, run-opens-new}
-use Rattle.scan.specs.Tracks.{entered, may, Follows}
+use Rattle.scan.specs.Tracks.{marked, may, Follows}
 use Rattle.scan.specs.Model.{Holding, Model, onward, fresh, pending, is-due, is-held, due-at, held-at}
-use Rattle.scan.specs.Standing.{Held-right, All, item-in, Stands}
+use Rattle.scan.specs.Standing.{Held-right, item-in, Stands}
 use Rattle.scan.proofs.Tracks.{follows-enter, run-follows}
 use Rattle.scan.proofs.Judging.{item-decided, due-told, held-told}
-use Rattle.scan.proofs.Holdings.{items-onward, all-map, all-so, all-append, kept-in, rising-append, kept-rising}
+use Rattle.scan.proofs.Holdings.{items-onward, all-listed, kept-in, rising-append, kept-rising}
 use Rattle.scan.proofs.Opening.{opening-old, opening-new}
 
 module _ (reach : ℕ → ℕ → Bool) (m : Selecting) (law : Lawful (m .shape)) (mark-law : LawfulMarks (m .shape) (m .mark)) (fits : Fits (m .shape) reach)
@@ -52,11 +54,11 @@ module _ (reach : ℕ → ℕ → Bool) (m : Selecting) (law : Lawful (m .shape)
 
   module _ (some : 0 < m .shape .width) where
     fresh-follows : (t : ℕ) → Sound (plus h (Open t))
-        → Follows reach (m .shape) (nest (plus h (Open t))) (entered reach (m .shape) t (m .mark (s .base .top .state) t) (s .base)) (run (m .shape) (marking m (suc (opened h))) (plus h (Open t)))
+        → Follows reach (m .shape) (nest (plus h (Open t))) (marked reach m t (s .base)) (run (m .shape) (marking m (suc (opened h))) (plus h (Open t)))
     fresh-follows t sound = go (nest h) refl
       where
         go : (n : Nest) → nest h ≡ n
-            → Follows reach (m .shape) (nest (h ++ (Open t ∷ []))) (entered reach (m .shape) t (m .mark (s .base .top .state) t) (s .base)) (run (m .shape) (marking m (suc (opened h))) (h ++ (Open t ∷ [])))
+            → Follows reach (m .shape) (nest (h ++ (Open t ∷ []))) (marked reach m t (s .base)) (run (m .shape) (marking m (suc (opened h))) (h ++ (Open t ∷ [])))
         go (within ts) at = on (ltb t tags) refl
           where
             f : Follows reach (m .shape) (within ts) (s .base) (run (m .shape) (plainly (m .shape)) h)
@@ -66,10 +68,10 @@ module _ (reach : ℕ → ℕ → Bool) (m : Selecting) (law : Lawful (m .shape)
             to b e = nest-more h (Open t) ∙ ap (λ (n : Nest). after n (Open t)) at ∙ ap (λ (b : Bool). cond b (within (t ∷ ts)) broken) e
 
             on : (b : Bool) → ltb t tags ≡ b
-                → Follows reach (m .shape) (nest (h ++ (Open t ∷ []))) (entered reach (m .shape) t (m .mark (s .base .top .state) t) (s .base)) (run (m .shape) (marking m (suc (opened h))) (h ++ (Open t ∷ [])))
+                → Follows reach (m .shape) (nest (h ++ (Open t ∷ []))) (marked reach m t (s .base)) (run (m .shape) (marking m (suc (opened h))) (h ++ (Open t ∷ [])))
             on true e =
-                subst (λ (n : Nest). Follows reach (m .shape) n (entered reach (m .shape) t (m .mark (s .base .top .state) t) (s .base)) (run (m .shape) (marking m (suc (opened h))) (h ++ (Open t ∷ [])))) (sym (to true e))
-                (subst (λ (c : Stand). Follows reach (m .shape) (within (t ∷ ts)) (entered reach (m .shape) t (m .mark (s .base .top .state) t) (s .base)) c) (sym (run-opens-new m h t))
+                subst (λ (n : Nest). Follows reach (m .shape) n (marked reach m t (s .base)) (run (m .shape) (marking m (suc (opened h))) (h ++ (Open t ∷ [])))) (sym (to true e))
+                (subst (λ (c : Stand). Follows reach (m .shape) (within (t ∷ ts)) (marked reach m t (s .base)) c) (sym (run-opens-new m h t))
                 (follows-enter reach (m .shape) law some ts (s .base) (run (m .shape) (plainly (m .shape)) h) t (m .mark (s .base .top .state) t) (m .mark (run (m .shape) (plainly (m .shape)) h .state) t) (suc (opened h))
                 (ap (λ (q : ℕ). m .mark q t) (f .0)) f))
             on false e = absurd (sound (to false e))
@@ -78,7 +80,7 @@ module _ (reach : ℕ → ℕ → Bool) (m : Selecting) (law : Lawful (m .shape)
 
     fresh-right : (e : Event) → Sound (plus h e) → All (Held-right reach m (plus h e)) (fresh reach m s e)
     fresh-right (Open t) sound = (
-      subst (λ (k : ℕ). Held-right reach m (h ++ (Open t ∷ [])) (record { item = suc k; since = suc (s .events); track = entered reach (m .shape) t (m .mark (s .base .top .state) t) (s .base) })) (sym (st .opens))
+      subst (λ (k : ℕ). Held-right reach m (h ++ (Open t ∷ [])) (record { item = suc k; since = suc (s .events); track = marked reach m t (s .base) })) (sym (st .opens))
           (fresh-follows t sound, ap suc (st .events) ∙ sym (opening-new h [] t)),
       tt,
     )
@@ -115,7 +117,9 @@ module _ (reach : ℕ → ℕ → Bool) (m : Selecting) (law : Lawful (m .shape)
 
       pub pending-right : All (Held-right reach m (plus h e)) (pending reach m s e)
       pending-right = all-append (Held-right reach m (plus h e)) (map (onward reach (m .shape) e) (s .held)) (fresh reach m s e)
-          (all-map (Held-right reach m h) (Held-right reach m (plus h e)) (onward reach (m .shape) e) (s .held) old (st .each))
+          (all-map (Held-right reach m (plus h e)) (onward reach (m .shape) e) (s .held)
+          (all-weaker (λ (x : Holding). In (item-in x) (map item-in (s .held)) × Held-right reach m h x) (λ (x : Holding). Held-right reach m (plus h e) (onward reach (m .shape) e x))
+          (λ x r. old x (r .0) (r .1)) (s .held) (all-listed (Held-right reach m h) (s .held) (st .each))))
           (fresh-right e sound)
         where
           old : (x : Holding) → In (item-in x) (map item-in (s .held)) → Held-right reach m h x → Held-right reach m (plus h e) (onward reach (m .shape) e x)
@@ -132,15 +136,20 @@ module _ (reach : ℕ → ℕ → Bool) (m : Selecting) (law : Lawful (m .shape)
           → Decided m (plus h e) (x .item) (may (m .shape) e true (x .track)) (may (m .shape) e false (x .track))
       decided x y r = item-decided reach m law mark-law fits some h e (x .item) (pending-in (x .item) .0 y .0) (x .track) (r .0)
 
+      all-tell : (p : Holding → Bool) (Kind : ℕ → Type 0)
+          → ((x : Holding) → Decided m (plus h e) (x .item) (may (m .shape) e true (x .track)) (may (m .shape) e false (x .track)) → (p x ≡ true) ↔ Kind (x .item))
+          → All (λ (x : Holding). (p x ≡ true) ↔ Kind (x .item)) (pending reach m s e)
+      all-tell p Kind tells =
+          all-weaker (λ (x : Holding). In (item-in x) (map item-in (pending reach m s e)) × Held-right reach m (plus h e) x) (λ (x : Holding). (p x ≡ true) ↔ Kind (x .item))
+          (λ x r. tells x (decided x (r .0) (r .1))) (pending reach m s e) (all-listed (Held-right reach m (plus h e)) (pending reach m s e) pending-right)
+
       -- The due and the held --------------------------------------------------------------------------------------
 
       pub due-lists : Lists (Just-due m h e) (map item-in (due-at reach m s e))
       due-lists =
           let ps : List Holding = pending reach m s e in
-          let tells : All (λ (x : Holding). (is-due (m .shape) e x ≡ true) ↔ Due m (plus h e) (x .item)) ps =
-          all-so (Held-right reach m (plus h e)) (λ (x : Holding). (is-due (m .shape) e x ≡ true) ↔ Due m (plus h e) (x .item)) ps
-          (λ x y r. due-told m (plus h e) sound (x .item) (may (m .shape) e true (x .track)) (may (m .shape) e false (x .track)) (decided x y r)) pending-right in
-          let is = kept-in (is-due (m .shape) e) (Due m (plus h e)) ps tells in (
+          let is = kept-in (is-due (m .shape) e) (Due m (plus h e)) ps
+          (all-tell (is-due (m .shape) e) (Due m (plus h e)) (λ x. due-told m (plus h e) sound (x .item) (may (m .shape) e true (x .track)) (may (m .shape) e false (x .track)))) in (
             kept-rising (is-due (m .shape) e) 0 ps pending-rising,
             λ i. (
               λ y. let z = is i .0 y in (z .1, pending-in i .0 (z .0) .1),
@@ -151,10 +160,8 @@ module _ (reach : ℕ → ℕ → Bool) (m : Selecting) (law : Lawful (m .shape)
       pub held-lists : Lists (Held m (plus h e)) (map item-in (held-at reach m s e))
       held-lists =
           let ps : List Holding = pending reach m s e in
-          let tells : All (λ (x : Holding). (is-held (m .shape) e x ≡ true) ↔ Held m (plus h e) (x .item)) ps =
-          all-so (Held-right reach m (plus h e)) (λ (x : Holding). (is-held (m .shape) e x ≡ true) ↔ Held m (plus h e) (x .item)) ps
-          (λ x y r. held-told m (plus h e) sound (x .item) (may (m .shape) e true (x .track)) (may (m .shape) e false (x .track)) (decided x y r)) pending-right in
-          let is = kept-in (is-held (m .shape) e) (Held m (plus h e)) ps tells in
+          let is = kept-in (is-held (m .shape) e) (Held m (plus h e)) ps
+          (all-tell (is-held (m .shape) e) (Held m (plus h e)) (λ x. held-told m (plus h e) sound (x .item) (may (m .shape) e true (x .track)) (may (m .shape) e false (x .track)))) in
           let two = (λ (i : ℕ). not-two m (plus h e) i sound) in (
             kept-rising (is-held (m .shape) e) 0 ps pending-rising,
             λ i. (

@@ -7,6 +7,7 @@ use Prim.Native.Nat.{ℕ, suc, _+_, _≤_, _<_}
 use native.Mathlib.Omega.{arith}
 use lib.Dec.{ltb}
 use lib.ListN.{length, take, drop, length-append, length-map}
+use Rattle.std.proofs.shelf.Elements.{all-weaker, all-kept-by}
 use Rattle.std.proofs.shelf.Tests.{ltb-true, lt-ltb, cases-lt}
 use Rattle.std.specs.declared.result.Result.{Result}
 use Rattle.std.specs.declared.result.Result.the-variants.{Ok, Err}
@@ -35,7 +36,7 @@ use Rattle.book.proofs.Steps.{nest-more, opened-more}
 use Rattle.scan.specs.Model.{Holding, Model, pending, is-due, is-held, due-at, held-at, next, test, totals, answer, list-after, model-after}
 use Rattle.scan.specs.Standing.{Held-right, item-in, Stands, Step-kept, Begins-right, Steps-right}
 use Rattle.scan.proofs.Tracks.{first-follows, run-follows}
-use Rattle.scan.proofs.Holdings.{all-so, all-kept, notes-are}
+use Rattle.scan.proofs.Holdings.{notes-are}
 use Rattle.scan.proofs.Tests.{Tells, never, All-tell, Outcome, checked-right, shared-tells}
 use Rattle.scan.proofs.Pending.{pending-right, due-lists, held-lists}
 
@@ -68,8 +69,8 @@ module _ (reach : ℕ → ℕ → Bool) (m : Selecting) (law : Lawful (m .shape)
         due-lists reach m law mark-law fits s h given st some e sound,
         sym (length-map due item-in),
         λ i. notes-are (plus h e) (suc (s .events)) due length-now
-            (all-so (Held-right reach m (plus h e)) (λ (y : Holding). y .since ≡ opening (y .item) (plus h e)) due (λ y _ r. r .1)
-            (all-kept (Held-right reach m (plus h e)) (is-due (m .shape) e) (pending reach m s e) (pending-right reach m law mark-law fits s h given st some e sound))) i
+            (all-weaker (Held-right reach m (plus h e)) (λ (y : Holding). y .since ≡ opening (y .item) (plus h e)) (λ y r. r .1) due
+            (all-kept-by (is-due (m .shape) e) (Held-right reach m (plus h e)) (pending reach m s e) (pending-right reach m law mark-law fits s h given st some e sound))) i
             ++ drop (sym (length-map due item-in) i) before,
       );
       opens = ap (λ (n : ℕ). count n e) (st .opens) ∙ sym (opened-more h e);
@@ -95,7 +96,7 @@ module _ (reach : ℕ → ℕ → Bool) (m : Selecting) (law : Lawful (m .shape)
       ordered = step-shown .ordered ∙ sym (orders-so-far (Just-due m h e) (plus h e) given x (a .orders) (step-shown .orders));
       base = run-follows reach (m .shape) law some h e (s .base) (plainly (m .shape)) sound (λ q t. refl) (st .base);
       held = held-lists reach m law mark-law fits s h given st some e sound;
-      each = all-kept (Held-right reach m (plus h e)) (is-held (m .shape) e) (pending reach m s e) (pending-right reach m law mark-law fits s h given st some e sound);
+      each = all-kept-by (is-held (m .shape) e) (Held-right reach m (plus h e)) (pending reach m s e) (pending-right reach m law mark-law fits s h given st some e sound);
     }
 
   -- The checks ----------------------------------------------------------------------------------------------------

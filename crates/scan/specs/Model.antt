@@ -17,7 +17,7 @@ use Rattle.book.specs.Limits.{most-held, least-room}
 use Rattle.book.specs.Catalogue.{Nest, within, after, count}
 use Rattle.book.specs.Machines.{Machine, Selecting}
 use Rattle.book.specs.Checks.{scan-lines}
-use Rattle.scan.specs.Tracks.{Track, first, entered, moved, may}
+use Rattle.scan.specs.Tracks.{Track, first, marked, moved, may}
 use Rattle.scan.specs.Tests.{on-open, shared-test, checked}
 
 -- an item that is neither ordered nor dropped: its number, the event that opened it, its run
@@ -47,7 +47,7 @@ onward reach m e x = record { item = x .item; since = x .since; track = moved re
 
 -- the item that the event opens
 abbrev pub fresh : (ℕ → ℕ → Bool) → Selecting → Model → Event → List Holding
-fresh reach m s (Open t) = record { item = suc (s .opened); since = suc (s .events); track = entered reach (m .shape) t (m .mark (s .base .top .state) t) (s .base) } ∷ []
+fresh reach m s (Open t) = record { item = suc (s .opened); since = suc (s .events); track = marked reach m t (s .base) } ∷ []
 fresh reach m s (Close t) = []
 fresh reach m s End = []
 

@@ -1,9 +1,10 @@
 -- When a scan over lists stands for the events so far and the orders given, and what its step owes.
 use mathlib.Core.Path.{_≡_}
 use mathlib.Core.Bool.{Bool}
-use mathlib.Core.List.{List, [], _∷_, map}
+use mathlib.Core.List.{List, [], map}
 use Prim.Native.Nat.{ℕ}
 use lib.ListN.{length}
+use Rattle.std.specs.shelf.Lists.{All}
 use Rattle.std.specs.declared.result.Result.{Result}
 use Rattle.book.specs.declared.event.Event.{Event}
 use Rattle.book.specs.declared.answer.Order.{Order}
@@ -25,10 +26,6 @@ use Rattle.scan.specs.Model.{Holding, Model, begun, answer, list-after, model-
 -- a held item has the track of its own run, and the event that opened it
 abbrev pub Held-right : (ℕ → ℕ → Bool) → Selecting → List Event → Holding → Type 0
 Held-right reach m h x = Follows reach (m .shape) (nest h) (x .track) (run (m .shape) (marking m (x .item)) h) × (x .since ≡ opening (x .item) h)
-
-abbrev pub All : (Holding → Type 0) → List Holding → Type 0
-All P [] = Unit {0}
-All P (x ∷ xs) = P x × All P xs
 
 abbrev pub item-in : Holding → ℕ
 item-in x = x .item

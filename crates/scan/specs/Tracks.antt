@@ -7,7 +7,7 @@ use lib.Dec.{ltb}
 use Rattle.book.specs.declared.event.Event.{Event}
 use Rattle.book.specs.declared.event.Event.the-variants.{Open, Close, End}
 use Rattle.book.specs.Catalogue.{Nest, within, over, broken}
-use Rattle.book.specs.Machines.{Machine, Stand}
+use Rattle.book.specs.Machines.{Machine, Selecting, Stand}
 use Rattle.book.specs.Tables.{some-below, possible}
 
 -- Levels and tracks -----------------------------------------------------------------------------------------------
@@ -49,6 +49,10 @@ first reach m = track (level (m .start) (λ b. widened reach m (answers m b))) [
 -- an item of tag t is entered, in state q
 abbrev pub entered : (ℕ → ℕ → Bool) → Machine → ℕ → ℕ → Track → Track
 entered reach m t q x = track (level q (inside reach m t (x .top))) (x .top ∷ x .under)
+
+-- the same by mark: the track of the item itself, from the base run
+abbrev pub marked : (ℕ → ℕ → Bool) → Selecting → ℕ → Track → Track
+marked reach m t x = entered reach (m .shape) t (m .mark (x .top .state) t) x
 
 -- an item of tag t is left, whose level is l, for the levels under it
 abbrev pub left : Machine → ℕ → Level → List Level → Track
