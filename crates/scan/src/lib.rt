@@ -1,0 +1,2 @@
+// Scans and watches.
+pub mod theory;
