@@ -1,4 +1,6 @@
 // Books: what they mean, the traits that they answer by, and the theory of earliest orders.
+#![tactic(auto)]
+
 pub mod answer;
 pub mod event;
 pub mod fault;

@@ -1,4 +1,6 @@
 // Says whether the book file `book.sel` in the working directory is right, and what is in it.
+#![tactic(auto)]
+
 ghost use Rattle.std.specs.Prelude.{◌≤◌, length};
 
 use anyhow::anyhow;

@@ -1,4 +1,6 @@
 // Book files: reading and checking one, and the books that answer from its bytes.
+#![tactic(auto)]
+
 pub mod book;
 pub mod file;
 pub mod header;

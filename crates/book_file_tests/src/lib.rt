@@ -1,4 +1,6 @@
 // Book files on examples: files that are read, with what their books answer, and each refusal with its place.
+#![tactic(auto)]
+
 #[cfg(test)]
 mod files;
 pub mod lending;

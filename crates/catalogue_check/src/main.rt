@@ -1,4 +1,6 @@
 // Prints the tags of a catalogue text from standard input, or where the text is refused.
+#![tactic(auto)]
+
 use anyhow::anyhow;
 use report::{Report, report_of};
 use std::io::{Read, Write};

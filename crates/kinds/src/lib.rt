@@ -1,4 +1,6 @@
 // Kinds of book, and layers over any book.
+#![tactic(auto)]
+
 pub mod both;
 pub mod kind_cases;
 pub mod level;

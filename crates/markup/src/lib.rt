@@ -1,5 +1,7 @@
 // Catalogue text: a reader that gives the tags of a text, one at a call, or its first fault.
 // The rules of the text are those of specs/Grammar; specs/Law says which tags and which fault a text has.
+#![tactic(auto)]
+
 ghost use Rattle.markup.specs.Cases.{WorkedTexts};
 ghost use Rattle.markup.specs.Law.{OneReading};
 

@@ -1,5 +1,7 @@
 // Makes a catalogue text in memory, reads it, and prints how many tags it has. With an argument, the size in MiB,
 // the time goes to standard error.
+#![tactic(auto)]
+
 use catalogue::catalogue;
 use markup_host::markup_tags;
 use std::env;

@@ -1,6 +1,8 @@
 // Reads each text of standard input, a line each, and prints how its reading ends: the fault's number and place
 // (0 and 0 for a right text), and how many tags it gives. Then all prefixes of a long right text, and all its
 // changes of one byte, counted by how they end.
+#![tactic(auto)]
+
 use changes::{long_text, note_changes, note_prefixes};
 use counts::Counts;
 use escapes::unescaped;

@@ -1,4 +1,6 @@
 // The reader for host programs in C: how the reading of a text ends, and how many tags it gives.
+#![tactic(auto)]
+
 ghost use Rattle.markup.specs.Reading.{reading};
 ghost use Rattle.markup.specs.Whole.{ending as Ending-of};
 ghost use Rattle.markup_host.specs.Endings.{capped, ending_number, ending_place};

@@ -1,4 +1,6 @@
 // The bytes of names, in catalogue text and in book files alike: the ASCII part of productions 4 and 4a of XML 1.0.
+#![tactic(auto)]
+
 ghost use Rattle.name_bytes.specs.Names.{name_start, name_byte};
 ghost use Rattle.std.specs.Prelude.{◌≡◌};
 

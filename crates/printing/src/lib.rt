@@ -1,4 +1,6 @@
 // Printed lines: what the programs write, as bytes that are added to what was printed before.
+#![tactic(auto)]
+
 ghost use Rattle.std.specs.Prelude.{◌≡◌, ◌++◌, decimal, OnOk};
 ghost use Rattle.printing.specs.Lines.{fact_line, refusal_line};
 

@@ -1,4 +1,6 @@
 // Making a book ready: for each state, all states that some row of whole items leads to.
+#![tactic(auto)]
+
 mod entered;
 pub mod laws;
 pub mod ready;

@@ -1,5 +1,7 @@
 // Makes large books ready and prints how many pairs of states their rows connect. With an argument it does so many
 // times, and writes to stderr how long one time takes.
+#![tactic(auto)]
+
 use book::shape_book::ShapeBook;
 use ready::ready::{Ready, make_ready};
 use ready_samples::SampleBook;

@@ -1,4 +1,6 @@
 // Books to try making ready on: they answer from arrays, as a table book answers from a file.
+#![tactic(auto)]
+
 ghost use Rattle.std.specs.Prelude.{◌≤◌};
 ghost use Rattle.book.specs.Limits.{most_states};
 ghost use Rattle.ready_samples.specs.Samples.{sample_machine, sample_lawful};

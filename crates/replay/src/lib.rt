@@ -1,4 +1,6 @@
 // Any calls, made to a scan of any book: the promise of the scan, whole and without a premise.
+#![tactic(auto)]
+
 pub mod exchange;
 mod replaying;
 

@@ -1,2 +1,4 @@
 // Scans and watches.
+#![tactic(auto)]
+
 pub mod theory;

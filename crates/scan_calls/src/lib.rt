@@ -1,4 +1,6 @@
 // Scans: each order leaves at the first event at which it rightly can.
+#![tactic(auto)]
+
 mod calls;
 mod checks;
 mod rows;
