@@ -8,9 +8,9 @@ use Rattle.book_file.proofs.names.find_name.Goals as goal
 pub tags-init : goal.tags-init
 tags-init c = ap (λ ws. named 1 ws c.args.tag) (unpacked_start c.args.count c.args.packed.now)
 
-pub returns-in-default : goal.returns-in-default
-returns-in-default c =
-    sym (c.tags.invariant ∙ ap (λ ws. named (suc c.tags.before) ws c.args.tag) (unpacked_none (c.args.count - c.tags.before) c.tags.rest.now c.in-default.ensures))
+pub returns-in_default : goal.returns-in_default
+returns-in_default c =
+    sym (c.tags.invariant ∙ ap (λ ws. named (suc c.tags.before) ws c.args.tag) (unpacked_none (c.args.count - c.tags.before) c.tags.rest.now c.in_default.ensures))
 
 pub returns-then-before-tag : goal.returns-then-before-tag
 returns-then-before-tag c =

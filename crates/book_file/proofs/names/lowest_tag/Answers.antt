@@ -8,4 +8,4 @@ returns c =
     let ws = unpacked c.args.count c.args.packed.now in
     let name = c.args.name.now in
     let P : ℕ → Type 0 = λ t. LowestTag ws name t in
-    record { value = c.find-tag.ensures; lowest = subst P (sym c.find-tag.ensures) (lowest_tag ws name) }
+    record { value = c.find_tag.ensures; lowest = subst P (sym c.find_tag.ensures) (lowest_tag ws name) }

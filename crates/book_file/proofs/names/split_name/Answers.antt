@@ -3,8 +3,8 @@ use Rattle.std.proofs.lemmas.List.{nil_from_length}
 use Rattle.book_file.proofs.Unpacked.{drop_min, take_min}
 use Rattle.book_file.proofs.names.split_name.Goals as goal
 
-pub returns-in-default : goal.returns-in-default
-returns-in-default c = nil_from_length c.args.packed.now c.in-default.ensures.cases
+pub returns-in_default : goal.returns-in_default
+returns-in_default c = nil_from_length c.args.packed.now c.in_default.ensures.cases
 
 pub returns : goal.returns
 returns c =
@@ -13,6 +13,6 @@ returns c =
       n,
       xs,
       c.in-Some.ensures.cases.0,
-      c.split-at.ensures.front ∙ ap (λ k. take k xs) c.min-length.ensures ∙ take_min n xs,
-      c.split-at.ensures.back ∙ ap (λ k. drop k xs) c.min-length.ensures ∙ drop_min n xs,
+      c.split_at.ensures.front ∙ ap (λ k. take k xs) c.min-length.ensures ∙ take_min n xs,
+      c.split_at.ensures.back ∙ ap (λ k. drop k xs) c.min-length.ensures ∙ drop_min n xs,
     )

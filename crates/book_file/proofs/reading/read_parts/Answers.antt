@@ -6,27 +6,27 @@ use Rattle.book_file.specs.Parts.{rows_of}
 use Rattle.book_file.proofs.FileRead.{file_read, names_fault}
 use Rattle.book_file.proofs.reading.read_parts.Goals as goal
 
-pub returns-in-err-names : goal.returns-in-err-names
-returns-in-err-names c =
+pub returns-in_err-names : goal.returns-in_err-names
+returns-in_err-names c =
     let bs = c.args.bytes.now in
-    let h = c.in-ok-header.header in
-    let tables = c.in-ok-tables.ensures in
-    let behind = c.split-at.ensures.back in
-    let whole : 10 + tables_size h ≤ length bs = omega (arith, c.if-bytes-tables-count.false, c.tables-count.ensures) in
-    let p = err_from_is_err_and c.from-residual-in-err-names.result c.from-residual-in-err-names.ensures.1 in
+    let h = c.in_ok-header.header in
+    let tables = c.in_ok-tables.ensures in
+    let behind = c.split_at.ensures.back in
+    let whole : 10 + tables_size h ≤ length bs = omega (arith, c.if-bytes-tables_count.false, c.tables_count.ensures) in
+    let p = err_from_is_err_and c.from_residual-in_err-names.result c.from_residual-in_err-names.ensures.1 in
     rw (p.1, p.2)
-    (names_fault bs h c.in-ok-header.ensures.value whole (rows_of c.in-ok-tables.tables)
+    (names_fault bs h c.in_ok-header.ensures.value whole (rows_of c.in_ok-tables.tables)
     (tables.value ∙ ap (tables_at h 10) behind) c.tables.new.self.at c.tables.new.self.bytes.now tables.rest.1 (tables.rest.0 ∙ ap (drop (tables_size h)) behind)
-    c.in-err-names.field-0.0 c.in-err-names.ensures)
+    c.in_err-names.field-0.0 c.in_err-names.ensures)
 
 pub returns : goal.returns
 returns c =
     let bs = c.args.bytes.now in
-    let h = c.in-ok-header.header in
-    let tables = c.in-ok-tables.ensures in
-    let behind = c.split-at.ensures.back in
-    let whole : 10 + tables_size h ≤ length bs = omega (arith, c.if-bytes-tables-count.false, c.tables-count.ensures) in
+    let h = c.in_ok-header.header in
+    let tables = c.in_ok-tables.ensures in
+    let behind = c.split_at.ensures.back in
+    let whole : 10 + tables_size h ≤ length bs = omega (arith, c.if-bytes-tables_count.false, c.tables_count.ensures) in
     ap (λ f. Ok f) c.file_with.ensures
-    ∙ file_read bs h c.in-ok-header.ensures.value whole (rows_of c.in-ok-tables.tables)
+    ∙ file_read bs h c.in_ok-header.ensures.value whole (rows_of c.in_ok-tables.tables)
     (tables.value ∙ ap (tables_at h 10) behind) c.tables.new.self.at c.tables.new.self.bytes.now tables.rest.1 (tables.rest.0 ∙ ap (drop (tables_size h)) behind)
-    _ c.in-ok-names.ensures
+    _ c.in_ok-names.ensures

@@ -10,5 +10,5 @@ pub returns : goal.returns
 returns c =
     let bs = c.args.bytes.now in
     let P : Result File BookFault → Type 0 = λ r. WrittenOnce bs r in
-    let written = subst P (sym c.read-parts.ensures) (written_once bs) in
-    record { value = c.read-parts.ensures; written = written; answers = written_answering bs c.read-parts.result written }
+    let written = subst P (sym c.read_parts.ensures) (written_once bs) in
+    record { value = c.read_parts.ensures; written = written; answers = written_answering bs c.read_parts.result written }

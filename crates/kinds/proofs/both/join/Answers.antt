@@ -9,8 +9,8 @@ joined_small v w x y hx hy some =
     let narrow : both_width v w ≤ most_states = both_narrow (leb (v * w) most_states) (v * w) refl in
     omega arith
 
-pub overflow-mul-result : goal.overflow-mul-result
-overflow-mul-result c = omega (arith, joined_small c.args.left-width c.args.right-width c.args.left c.args.right c.requires.0 c.requires.1 c.requires.2)
+pub overflow_mul-result : goal.overflow_mul-result
+overflow_mul-result c = omega (arith, joined_small c.args.left-width c.args.right-width c.args.left c.args.right c.requires.0 c.requires.1 c.requires.2)
 
-pub overflow-add-result : goal.overflow-add-result
-overflow-add-result c = omega (arith, joined_small c.args.left-width c.args.right-width c.args.left c.args.right c.requires.0 c.requires.1 c.requires.2)
+pub overflow_add-result : goal.overflow_add-result
+overflow_add-result c = omega (arith, joined_small c.args.left-width c.args.right-width c.args.left c.args.right c.requires.0 c.requires.1 c.requires.2)

@@ -9,8 +9,8 @@ use Rattle.kinds.proofs.path.enter_set.Goals.{then-reaches, else-reaches}
 set_of_more : (p : ℕ → Bool) (m x : ℕ) (b : Bool) → b ≡ p m → x ≡ set_of p m + cond b (2 ^ m) 0 → x ≡ set_of p (m + 1)
 set_of_more p m x b e h = h ∙ ap (λ (a : Bool). set_of p m + cond a (2 ^ m) 0) e ∙ ap (set_of p) (sym (add-one m))
 
-pub overflow-add-next : goal.overflow-add-next
-overflow-add-next c =
+pub overflow_add-next : goal.overflow_add-next
+overflow_add-next c =
     let e = one_shl c.loop-place.place 16 (omega arith) in
     let few : c.loop-place.place ≤ most_steps = omega arith in
     let p : 2 ^ c.loop-place.place ≤ 2 ^ most_steps = pow_mono few in

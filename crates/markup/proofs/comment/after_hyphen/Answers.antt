@@ -9,8 +9,8 @@ use Rattle.markup.proofs.comment.after_hyphen.Goals as goal
 pub returns-then-i-text : goal.returns-then-i-text
 returns-then-i-text c = at_end c.args.text.now c.args.i one_hyphen (omega arith)
 
-pub returns-then-is-allowed : goal.returns-then-is-allowed
-returns-then-is-allowed c = (omega arith, record { onward = omega arith; inside = omega arith; same = at_on c.args.text.now c.args.i one_hyphen in_comment (omega arith) (grind (arith, nat_tests)) })
+pub returns-then-is_allowed : goal.returns-then-is_allowed
+returns-then-is_allowed c = (omega arith, record { onward = omega arith; inside = omega arith; same = at_on c.args.text.now c.args.i one_hyphen in_comment (omega arith) (grind (arith, nat_tests)) })
 
 pub returns-then-b-ne45 : goal.returns-then-b-ne45
 returns-then-b-ne45 c = at_stop c.args.text.now c.args.i 22 c.args.i one_hyphen (omega arith) (grind (arith, nat_tests))
@@ -19,8 +19,8 @@ pub returns-then-i-text-2 : goal.returns-then-i-text-2
 returns-then-i-text-2 c =
     at_on c.args.text.now c.args.i one_hyphen two_hyphens (omega arith) (grind (arith, nat_tests)) ∙ at_end c.args.text.now (c.args.i + 1) two_hyphens (omega arith)
 
-pub returns-then-not-ends-comment : goal.returns-then-not-ends-comment
-returns-then-not-ends-comment c =
+pub returns-then-not-ends_comment : goal.returns-then-not-ends_comment
+returns-then-not-ends_comment c =
     at_on c.args.text.now c.args.i one_hyphen two_hyphens (omega arith) (grind (arith, nat_tests)) ∙ at_stop c.args.text.now (c.args.i + 1) 22 (c.args.i + 1) two_hyphens (omega arith) (grind (arith, nat_tests))
 
 pub returns : goal.returns

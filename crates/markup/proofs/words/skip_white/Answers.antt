@@ -5,4 +5,4 @@ use Rattle.markup.proofs.Slices.{stays_on}
 use Rattle.markup.proofs.words.skip_white.Goals as goal
 
 pub loop-i-preserved : goal.loop-i-preserved
-loop-i-preserved c = (omega arith, omega arith, stays_on white c.args.text.now c.args.from c.loop-i.i c.loop-i.invariant.2 c.loop-i-test.true (sym c.if-is-white.ensures))
+loop-i-preserved c = (omega arith, omega arith, stays_on white c.args.text.now c.args.from c.loop-i.i c.loop-i.invariant.2 c.loop-i-test.true (sym c.if-is_white.ensures))

@@ -17,7 +17,7 @@ loop-inner-preserved g c =
     elim c.if-contains.branch [
       | then-contains+then-not-contains w ↦
           let lead = c.requires.leads i (sym w.if-contains.ensures) in
-          let post = asked_one m law (lies c.loop-inner.table.rows) (lies w.ask.new.table.rows) inv.0 c.args.outer i c.args.tag c.requires.outer-in c.requires.tag_in lead w.ask.ensures in
+          let post = asked_one m law (lies c.loop-inner.table.rows) (lies w.ask.new.table.rows) inv.0 c.args.outer i c.args.tag c.requires.outer_in c.requires.tag_in lead w.ask.ensures in
           subst Next (sym w.table-is) (
             post.0,
             (λ q p h. post.1 q p (inv.1 q p h)),

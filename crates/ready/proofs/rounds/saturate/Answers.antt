@@ -7,10 +7,10 @@ pub returns : goal.returns
 returns g c =
     let m = g.B.ShapeBook.machine c.args.book.now in
     let law = g.B.ShapeBook.lawful c.args.book.now in
-    let reach = lies c.find-pairs.result.rows in
-    let fit = fits m reach c.find-pairs.ensures in
+    let reach = lies c.find_pairs.result.rows in
+    let fit = fits m reach c.find_pairs.ensures in
     record {
-      reach = c.find-pairs.ensures;
+      reach = c.find_pairs.ensures;
       fits = fit;
       acceptance = λ some. decides_acceptance m reach law some fit;
       items = λ some. decides_items m reach law some fit;

@@ -9,14 +9,14 @@ use Rattle.ready.proofs.useless.find_useful.Goals as goal
 pub growing-init : goal.growing-init
 growing-init g c q a = absurd (both_ways _ (c.empty-useful.ensures.none q) a)
 
-pub returns-then-is-subset : goal.returns-then-is-subset
-returns-then-is-subset g c lead q =
+pub returns-then-is_subset : goal.returns-then-is_subset
+returns-then-is_subset g c lead q =
     let m = g.B.ShapeBook.machine c.args.book.now in
     let law = g.B.ShapeBook.lawful c.args.book.now in
     let useful = has c.growing.useful.words in (
       (λ a. let b = c.growing.invariant q a in (b.0, b.1 lead)),
       λ a. useful_found m (lies c.args.reach.now.rows) lead useful law
-          (λ x p hx b hp stop. c.if-is-subset.ensures x ((c.useful-before-before.ensures x).1 (hx, (p, b, hp, stop))))
+          (λ x p hx b hp stop. c.if-is_subset.ensures x ((c.useful_before-before.ensures x).1 (hx, (p, b, hp, stop))))
           a.1.0 a.1.1 q a.0 a.1.2 a.1.3,
     )
 
@@ -27,7 +27,7 @@ growing-preserved g c q a =
     elim (or_cases (useful q) _ (sym (c.union-useful.ensures q) ∙ a)) [
       | inl b ↦ c.growing.invariant q b
       | inr b ↦
-          let found = (c.useful-before-before.ensures q).0 b in
+          let found = (c.useful_before-before.ensures q).0 b in
           (found.0, λ lead. useful_spreads m (lies c.args.reach.now.rows) lead useful (λ x h. (c.growing.invariant x h).1 lead) q found.1.0 found.1.1 found.1.3)
     ]
 
@@ -35,6 +35,6 @@ pub growing-smaller : goal.growing-smaller
 growing-smaller g c =
     let m = g.B.ShapeBook.machine c.args.book.now in
     let useful = has c.growing.useful.words in
-    let more = c.if-is-subset.ensures in
+    let more = c.if-is_subset.ensures in
     lack_lt useful (has c.union-useful.result.words) (λ q a. c.union-useful.ensures q ∙ or_left (useful q) _ a) m.width more.0
-    ((c.useful-before-before.ensures more.0).0 more.1).0 more.2 (c.union-useful.ensures more.0 ∙ or_right (useful more.0) _ more.1)
+    ((c.useful_before-before.ensures more.0).0 more.1).0 more.2 (c.union-useful.ensures more.0 ∙ or_right (useful more.0) _ more.1)

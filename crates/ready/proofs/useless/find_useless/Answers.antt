@@ -23,16 +23,16 @@ loop-state-preserved g c =
     ]
   where
     Next : StateSet → Type 0
-    Next s = Admitted s.words (c.loop-state.state + 1) (λ q. has c.find-useful-useful.result.words q ≡ false)
+    Next s = Admitted s.words (c.loop-state.state + 1) (λ q. has c.find_useful-useful.result.words q ≡ false)
 
 pub returns : goal.returns
 returns g c lead q =
     let m = g.B.ShapeBook.machine c.args.book.now in
-    let useful = c.find-useful-useful.ensures lead q in
+    let useful = c.find_useful-useful.ensures lead q in
     let e : c.loop-state.state ≡ m.width = omega (arith, c.width-width.ensures) in (
       (λ a. let b = (c.loop-state.invariant q).0 a in (omega (arith, b.0), λ h. both_ways _ b.1 (useful.1 (omega (arith, b.0), h)))),
       λ a. (c.loop-state.invariant q).1 (
         omega (arith, a.0),
-        elim (cases_Bool (has c.find-useful-useful.result.words q)) [ inl h ↦ absurd (a.1 (useful.0 h).1) | inr h ↦ h ],
+        elim (cases_Bool (has c.find_useful-useful.result.words q)) [ inl h ↦ absurd (a.1 (useful.0 h).1) | inr h ↦ h ],
       ),
     )

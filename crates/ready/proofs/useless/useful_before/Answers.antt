@@ -20,13 +20,13 @@ loop-state-preserved g c =
     elim c.if-intersects.branch [
       | then-intersects w ↦
           let met = w.if-intersects.ensures in
-          let ends = (c.all-stops-ends.ensures met.0).0 met.2 in
+          let ends = (c.all_stops-ends.ensures met.0).0 met.2 in
           subst Next (sym w.found-is)
           (admitted_in c.loop-state.found.words i _ c.loop-state.invariant w.insert.new.self.words small
           (met.0, sym (c.row.ensures met.0) ∙ met.1, ends.0, ends.1) w.insert.ensures)
       | else-intersects w ↦ subst Next (sym w.found-is)
           (admitted_out c.loop-state.found.words i _ c.loop-state.invariant
-          (λ h. both_ways _ (w.if-intersects.ensures h.0 (c.row.ensures h.0 ∙ h.1)) ((c.all-stops-ends.ensures h.0).1 (h.2, h.3))))
+          (λ h. both_ways _ (w.if-intersects.ensures h.0 (c.row.ensures h.0 ∙ h.1)) ((c.all_stops-ends.ensures h.0).1 (h.2, h.3))))
     ]
   where
     Next : StateSet → Type 0

@@ -16,17 +16,17 @@ names-init c =
       c.requires,
     )
 
-pub returns-in-err--name : goal.returns-in-err--name
-returns-in-err--name c =
-    let p = err_from_is_err_and c.from-residual.result c.from-residual.ensures.1 in
+pub returns-in_err-_name : goal.returns-in_err-_name
+returns-in_err-_name c =
+    let p = err_from_is_err_and c.from_residual.result c.from_residual.ensures.1 in
     let read = c.names.invariant.0 in
     rw (p.1, p.2)
-    (sym (read.1 ∙ names_stop c.args.size c.args.count c.names.counter c.names.self.at c.names.self.bytes.now read.0 c.in-err--name.field-0.0 c.names-test.true c.in-err--name.ensures.value))
+    (sym (read.1 ∙ names_stop c.args.size c.args.count c.names.counter c.names.self.at c.names.self.bytes.now read.0 c.in_err-_name.field-0.0 c.names-test.true c.in_err-_name.ensures.value))
 
 pub names-preserved : goal.names-preserved
 names-preserved c =
-    let w = c.in-ok--name.-name.now in
-    let kept = c.in-ok--name.ensures in
+    let w = c.in_ok-_name._name.now in
+    let kept = c.in_ok-_name.ensures in
     let read = c.names.invariant.0 in (
       (
         read.0 ++ w ∷ [],

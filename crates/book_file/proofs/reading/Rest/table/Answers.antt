@@ -8,12 +8,12 @@ pub returns-in-None : goal.returns-in-None
 returns-in-None c =
     let bound = c.args.bound in
     let at = c.args.self.now.at in
-    let xs : List ℕ = c.split-at.result.0.now in
+    let xs : List ℕ = c.split_at.result.0.now in
     let none = sym c.in-None.ensures in
     record {
-      value = sym (unless_none (first_off (λ x. ltb x bound) at xs) TableEntry xs none) ∙ ap (table_at bound at) c.split-at.ensures.front;
-      filled = (c.split-at.ensures.front-len, none_all (λ x. ltb x bound) at xs none);
-      bytes = c.split-at.ensures.back;
+      value = sym (unless_none (first_off (λ x. ltb x bound) at xs) TableEntry xs none) ∙ ap (table_at bound at) c.split_at.ensures.front;
+      filled = (c.split_at.ensures.front_len, none_all (λ x. ltb x bound) at xs none);
+      bytes = c.split_at.ensures.back;
       at = refl;
-      left = c.split-at.ensures.back_len;
+      left = c.split_at.ensures.back_len;
     }

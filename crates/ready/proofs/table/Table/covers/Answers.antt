@@ -6,12 +6,12 @@ pub loop-q-preserved : goal.loop-q-preserved
 loop-q-preserved c =
     let i = c.loop-q.q in
     below_more _ _ c.loop-q.invariant
-    (λ p h. lies_is c.args.self.now.rows i p ∙ c.if-not-is-subset.ensures p (sym (lies_is c.args.other.now.rows i p) ∙ h))
+    (λ p h. lies_is c.args.self.now.rows i p ∙ c.if-not-is_subset.ensures p (sym (lies_is c.args.other.now.rows i p) ∙ h))
 
-pub returns-then-not-is-subset : goal.returns-then-not-is-subset
-returns-then-not-is-subset c =
+pub returns-then-not-is_subset : goal.returns-then-not-is_subset
+returns-then-not-is_subset c =
     let i = c.loop-q.q in
-    let found = c.if-not-is-subset.ensures in
+    let found = c.if-not-is_subset.ensures in
     (i, found.0, omega arith, lies_is c.args.other.now.rows i found.0 ∙ found.1, lies_is c.args.self.now.rows i found.0 ∙ found.2)
 
 pub returns : goal.returns
