@@ -10,7 +10,7 @@ joined_small v w x y hx hy some =
     omega arith
 
 pub overflow_mul-result : goal.overflow_mul-result
-overflow_mul-result c = omega (arith, joined_small c.args.left-width c.args.right-width c.args.left c.args.right c.requires.0 c.requires.1 c.requires.2)
+overflow_mul-result c = omega (arith, joined_small c.args.left_width c.args.right_width c.args.left c.args.right c.requires.left_bound c.requires.right_bound c.requires.right_width_nonzero)
 
 pub overflow_add-result : goal.overflow_add-result
-overflow_add-result c = omega (arith, joined_small c.args.left-width c.args.right-width c.args.left c.args.right c.requires.0 c.requires.1 c.requires.2)
+overflow_add-result c = omega (arith, joined_small c.args.left_width c.args.right_width c.args.left c.args.right c.requires.left_bound c.requires.right_bound c.requires.right_width_nonzero)
