@@ -5,4 +5,4 @@ use Rattle.cases.proofs.Calls.{call_cases}
 use Rattle.cases.proofs.worked_cases_stand.Goals as goal
 
 pub returns : goal.returns
-returns c = (c.kind-cases-stand.ensures, seal_cases, layer_cases c.kind-cases-stand.ensures, call_cases)
+returns c = (c.kind_cases_stand.ensures, seal_cases, layer_cases c.kind_cases_stand.ensures, call_cases)

@@ -7,5 +7,5 @@ use Rattle.book_report.proofs.lines.add_accepting.Goals as goal
 pub returns : goal.returns
 returns c =
     let states = or_none (accepting_states 0 c.args.accept.now) in
-    added (vec_items c.args.out.now) (codes "accepting") (states ++ codes "\n") c.in-ok-extend-from-slice.ensures.items
-    (added (vec_items c.extend-from-slice.new.self) states (codes "\n") c.in-ok-add-some-states.ensures c.in-ok-extend-from-slice-2.ensures.items)
+    added (vec_items c.args.out.now) (codes "accepting") (states ++ codes "\n") c.in_ok-extend_from_slice.ensures.items
+    (added (vec_items c.extend_from_slice.new.self) states (codes "\n") c.in_ok-add_some_states.ensures c.in_ok-extend_from_slice-2.ensures.items)

@@ -8,8 +8,8 @@ pub returns : goal.returns
 returns c =
     let tag = decimal c.args.tag in
     let name = c.in-Some.name.now in
-    added (vec_items c.args.out.now) (codes "tag ") (tag ++ (codes " " ++ (name ++ codes "\n"))) c.in-ok-extend-from-slice.ensures.items
-    (added (vec_items c.extend-from-slice.new.self) tag (codes " " ++ (name ++ codes "\n")) c.in-ok-add-number.ensures
-    (added (vec_items c.add-number.new.out) (codes " ") (name ++ codes "\n") c.in-ok-extend-from-slice-2.ensures.items
-    (added (vec_items c.extend-from-slice-2.new.self) name (codes "\n") c.in-ok-extend-from-slice-3.ensures.items c.in-ok-extend-from-slice-4.ensures.items)))
+    added (vec_items c.args.out.now) (codes "tag ") (tag ++ (codes " " ++ (name ++ codes "\n"))) c.in_ok-extend_from_slice.ensures.items
+    (added (vec_items c.extend_from_slice.new.self) tag (codes " " ++ (name ++ codes "\n")) c.in_ok-add_number.ensures
+    (added (vec_items c.add_number.new.out) (codes " ") (name ++ codes "\n") c.in_ok-extend_from_slice-2.ensures.items
+    (added (vec_items c.extend_from_slice-2.new.self) name (codes "\n") c.in_ok-extend_from_slice-3.ensures.items c.in_ok-extend_from_slice-4.ensures.items)))
     ∙ ap (λ o. vec_items c.args.out.now ++ name_line c.args.tag (spelt o)) (sym c.in-Some.is)

@@ -11,7 +11,7 @@ tags-preserved c =
     let left = c.args.columns - (tag + 1) in
     let more : c.args.columns - tag ≡ suc left = omega arith in
     let out = vec_items c.tags.out in
-    ap (λ k. vec_items c.add-name.new.out ++ name_lines k left ws) (add-one tag)
+    ap (λ k. vec_items c.add_name.new.out ++ name_lines k left ws) (add-one tag)
     ∙ added_more out (name_line tag (name_of ws tag)) (name_lines (suc tag) left ws)
-    (c.in-ok-add-name.ensures ∙ ap (λ o. out ++ name_line tag o) c.name-of.ensures)
+    (c.in_ok-add_name.ensures ∙ ap (λ o. out ++ name_line tag o) c.name_of.ensures)
     (ap (λ n. out ++ name_lines tag n ws) (sym more) ∙ c.tags.invariant)

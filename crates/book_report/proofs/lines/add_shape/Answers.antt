@@ -9,5 +9,5 @@ pub returns : goal.returns
 returns c =
     let f = c.args.file.now in
     let names = name_lines 1 (f.columns - 1) (listed f.names) in
-    added (vec_items c.args.out.now) (number_lines (shape_tables f)) (accepting_line f.accept.now ++ names) c.in-ok-add-numbers.ensures
-    (added (vec_items c.add-numbers.new.out) (accepting_line f.accept.now) names c.in-ok-add-accepting.ensures c.in-ok-add-names.ensures)
+    added (vec_items c.args.out.now) (number_lines (shape_tables f)) (accepting_line f.accept.now ++ names) c.in_ok-add_numbers.ensures
+    (added (vec_items c.add_numbers.new.out) (accepting_line f.accept.now) names c.in_ok-add_accepting.ensures c.in_ok-add_names.ensures)

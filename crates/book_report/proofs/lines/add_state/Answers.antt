@@ -7,5 +7,5 @@ pub returns : goal.returns
 returns c =
     let state = decimal c.args.state in
     let out = vec_items c.args.out.now in
-    added out (codes " ") state c.in-ok-extend-from-slice.ensures.items c.in-ok-add-number.ensures
+    added out (codes " ") state c.in_ok-extend_from_slice.ensures.items c.in_ok-add_number.ensures
     ∙ ap (λ w. out ++ w) (sym (cond-true (eqb c.args.accepts 1) (codes " " ++ state) [] (eq-eqb c.args.accepts 1 c.if-accepts-ne1.false)))

@@ -10,8 +10,8 @@ states-preserved c =
     let i = c.states.state in
     let word = state_word i (get_or xs i 0) in
     let rest = accepting_states (suc i) (drop (i + 1) xs) in
-    ap (λ k. vec_items c.add-state.new.out ++ accepting_states k (drop (i + 1) xs)) (add-one i)
-    ∙ added_more (vec_items c.states.out) word rest c.in-ok-add-state.ensures
+    ap (λ k. vec_items c.add_state.new.out ++ accepting_states k (drop (i + 1) xs)) (add-one i)
+    ∙ added_more (vec_items c.states.out) word rest c.in_ok-add_state.ensures
     (ap (λ ws. vec_items c.states.out ++ ws) (sym (at_drop_more (accepting_states i) xs i 0 c.states-test.true)) ∙ c.states.invariant)
 
 pub returns : goal.returns

@@ -9,5 +9,5 @@ returns c =
     let k = c.args.state in
     let states = c.args.states.now in
     let out = vec_items c.args.out.now in
-    added out (codes " ") (decimal k) c.in-ok-extend-from-slice.ensures.items c.in-ok-add-number.ensures
+    added out (codes " ") (decimal k) c.in_ok-extend_from_slice.ensures.items c.in_ok-add_number.ensures
     ∙ ap (λ w. out ++ w) (sym (cond-true (has states.words k) (codes " " ++ decimal k) [] (sym c.contains.ensures ∙ c.if-not-contains.false)))

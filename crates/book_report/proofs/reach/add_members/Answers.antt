@@ -11,6 +11,6 @@ states-preserved c =
     let left = c.args.width - (k + 1) in
     let more : c.args.width - k ≡ suc left = omega arith in
     let out = vec_items c.states.out in
-    ap (λ n. vec_items c.add-member.new.out ++ member_words test n left) (add-one k)
-    ∙ added_more out (member_word test k) (member_words test (suc k) left) c.in-ok-add-member.ensures
+    ap (λ n. vec_items c.add_member.new.out ++ member_words test n left) (add-one k)
+    ∙ added_more out (member_word test k) (member_words test (suc k) left) c.in_ok-add_member.ensures
     (ap (λ n. out ++ member_words test k n) (sym more) ∙ c.states.invariant)

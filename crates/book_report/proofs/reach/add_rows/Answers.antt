@@ -14,7 +14,7 @@ rows-preserved g c =
     let left = width - (k + 1) in
     let more : width - k ≡ suc left = omega arith in
     let out = vec_items c.rows.out in
-    ap (λ n. vec_items c.add-row.new.out ++ row_lines reach width n left) (add-one k)
+    ap (λ n. vec_items c.add_row.new.out ++ row_lines reach width n left) (add-one k)
     ∙ added_more out (row_line (reach k) width k) (row_lines reach width (suc k) left)
-    (c.in-ok-add-row.ensures ∙ ap (λ ws. out ++ ws) (same_row (has c.row.result.words) (reach k) c.row.ensures width k))
+    (c.in_ok-add_row.ensures ∙ ap (λ ws. out ++ ws) (same_row (has c.row.result.words) (reach k) c.row.ensures width k))
     (ap (λ n. out ++ row_lines reach width k n) (sym more) ∙ c.rows.invariant)

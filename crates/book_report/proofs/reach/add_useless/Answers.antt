@@ -7,5 +7,5 @@ use Rattle.book_report.proofs.reach.add_useless.Goals as goal
 pub returns : goal.returns
 returns c =
     let words = or_none (member_words (has c.args.useless.now.words) 0 c.args.width) in
-    added (vec_items c.args.out.now) (codes "never accepting") (words ++ codes "\n") c.in-ok-extend-from-slice.ensures.items
-    (added (vec_items c.extend-from-slice.new.self) words (codes "\n") c.in-ok-add-some.ensures c.in-ok-extend-from-slice-2.ensures.items)
+    added (vec_items c.args.out.now) (codes "never accepting") (words ++ codes "\n") c.in_ok-extend_from_slice.ensures.items
+    (added (vec_items c.extend_from_slice.new.self) words (codes "\n") c.in_ok-add_some.ensures c.in_ok-extend_from_slice-2.ensures.items)

@@ -16,7 +16,7 @@ returns-in-ok-add-book c =
     let is = c.in-Shape.is in
     let answers = subst Answering is c.requires in
     let lines = added out (codes "kind shape\n") (shape_lines (shape_tables f) (listed f.names)) c.in-ok-extend-from-slice.ensures.items c.in-ok-add-shape.ensures in
-    shown_at (tables_in c.book.result) _ (vec_items c.add-shape.new.out) _ (vec_items c.add-book.new.out)
+    shown_at (tables_in c.book.result) _ (vec_items c.add_shape.new.out) _ (vec_items c.add_book.new.out)
     (c.book.ensures ∙ answers ∙ ap (λ b. (file_of b).tables) (sym is)) (lines ∙ ap (λ b. out ++ file_lines (file_of b)) (sym is)) c.in-ok-add-book.ensures
 
 pub returns-in-ok-add-book-2 : goal.returns-in-ok-add-book-2
@@ -26,5 +26,5 @@ returns-in-ok-add-book-2 c =
     let is = c.in-Selecting.is in
     let answers = subst Answering is c.requires in
     let lines = added out (codes "kind selecting\n") (shape_lines (shape_tables f) (listed f.names)) c.in-ok-extend-from-slice-2.ensures.items c.in-ok-add-shape-2.ensures in
-    shown_at (tables_in c.book-in-Selecting.result.shape) _ (vec_items c.add-shape-in-Selecting.new.out) _ (vec_items c.add-book-in-Selecting.new.out)
+    shown_at (tables_in c.book-in-Selecting.result.shape) _ (vec_items c.add_shape-in-Selecting.new.out) _ (vec_items c.add_book-in-Selecting.new.out)
     (c.book-in-Selecting.ensures.tables ∙ answers.0 ∙ ap (λ b. (file_of b).tables) (sym is)) (lines ∙ ap (λ b. out ++ file_lines (file_of b)) (sym is)) c.in-ok-add-book-2.ensures

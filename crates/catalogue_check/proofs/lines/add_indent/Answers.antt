@@ -6,5 +6,5 @@ use Rattle.catalogue_check.specs.Lines.{indent}
 
 pub loop-level-preserved : goal.loop-level-preserved
 loop-level-preserved c =
-    added (vec_items c.args.out.now) (vec_items c.loop-level.out) (vec_items c.extend-from-slice.new.self) (indent c.loop-level.level) (32 ∷ (32 ∷ [])) c.loop-level.invariant c.in-ok-extend-from-slice.ensures.items
+    added (vec_items c.args.out.now) (vec_items c.loop-level.out) (vec_items c.extend_from_slice.new.self) (indent c.loop-level.level) (32 ∷ (32 ∷ [])) c.loop-level.invariant c.in_ok-extend_from_slice.ensures.items
     ∙ ap (λ z. vec_items c.args.out.now ++ z) (indent_more c.loop-level.level)
