@@ -19,7 +19,7 @@ loop-k-preserved g c =
     let below : d ≢ d + 1 = omega arith in
     let child : ℕ → Cell → Type 0 = (λ j x. seen x ≡ entered_seen reach m j c.args.tag (seen (cell_at (get_or first d []) j))) in
     let new : child k y = c.entered.ensures
-    ∙ ap (λ (x : Cell). entered_seen reach m k c.args.tag (seen x)) (c.cell-at-cell.ensures ∙ ap (λ (r : List Cell). cell_at r k) (c.loop-k.invariant.1 d below)) in
+    ∙ ap (λ (x : Cell). entered_seen reach m k c.args.tag (seen x)) (c.cell_at-cell.ensures ∙ ap (λ (r : List Cell). cell_at r k) (c.loop-k.invariant.1 d below)) in
     let put = c.put.ensures in
     let wide : k + 1 ≤ length (get_or first d []) = (let z = ap length (c.loop-k.invariant.1 d below) in omega arith) in (
       wide,

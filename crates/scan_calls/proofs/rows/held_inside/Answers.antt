@@ -19,8 +19,8 @@ counted reach m t rows d n old h b some is e =
     (λ i. (is ∙ ap (λ (cs : List Cell). length (filter (held_child reach m t) cs)) (mid_taken n (get_or rows d []) some)) i + cond (e i) 1 0)
     ∙ sym (held_count reach m t rows d n h)
 
-pub returns-then-holds-new : goal.returns-then-holds-new
-returns-then-holds-new g c = λ item since.
+pub returns-then-holds_new : goal.returns-then-holds_new
+returns-then-holds_new g c = λ item since.
     let m : Machine = g.B.ShapeBook.machine c.args.ready.now.book in
     let reach : ℕ → ℕ → Bool = reach_of c.args.ready.now in
     let t : ℕ = c.args.tag in
@@ -29,8 +29,8 @@ returns-then-holds-new g c = λ item since.
     let under : List Level = around rows d (cell_at (get_or rows d []) 0).parent in
     let new : Cell → Holding = (λ x. holding_new item since (marked reach (selecting m (g.B.SelectingBook.marks c.args.ready.now.book)) t (track (seen x).level under))) in
     let some : 1 ≤ c.args.n = omega arith in
-    counted reach m t rows d c.args.n c.count-inside-old.result (new (cell_at (get_or rows d []) 0)) true some c.count-inside-old.ensures.count
-    (c.if-holds-new.ensures item since under ∙ ap (λ (x : Cell). is_held m (Open t) (new x)) c.cell-at-base.ensures)
+    counted reach m t rows d c.args.n c.count_inside-old.result (new (cell_at (get_or rows d []) 0)) true some c.count_inside-old.ensures.count
+    (c.if-holds_new.ensures item since under ∙ ap (λ (x : Cell). is_held m (Open t) (new x)) c.cell_at-base.ensures)
 
 pub returns : goal.returns
 returns g c = λ item since.
@@ -42,5 +42,5 @@ returns g c = λ item since.
     let under : List Level = around rows d (cell_at (get_or rows d []) 0).parent in
     let new : Cell → Holding = (λ x. holding_new item since (marked reach (selecting m (g.B.SelectingBook.marks c.args.ready.now.book)) t (track (seen x).level under))) in
     let some : 1 ≤ c.args.n = omega arith in
-    sym (add-zero c.count-inside-old.result) ∙ counted reach m t rows d c.args.n c.count-inside-old.result (new (cell_at (get_or rows d []) 0)) false some c.count-inside-old.ensures.count
-    (c.if-holds-new.ensures item since under ∙ ap (λ (x : Cell). is_held m (Open t) (new x)) c.cell-at-base.ensures)
+    sym (add-zero c.count_inside-old.result) ∙ counted reach m t rows d c.args.n c.count_inside-old.result (new (cell_at (get_or rows d []) 0)) false some c.count_inside-old.ensures.count
+    (c.if-holds_new.ensures item since under ∙ ap (λ (x : Cell). is_held m (Open t) (new x)) c.cell_at-base.ensures)

@@ -15,4 +15,4 @@ returns g c = λ item since under.
     let q : ℕ = g.B.SelectingBook.marks c.args.ready.now.book first.level.state t in
     let state-is : c.mark-state.result ≡ q = cc in
     let new_is : seen c.beside-new.result ≡ beside_seen 0 0 q (entered_seen reach m 0 t first) = c.beside-new.ensures ∙ (λ i. beside_seen 0 0 (state-is i) (c.entered.ensures i)) in
-    c.is-held.ensures ∙ ap (λ (s : Seen). is_held m (Open t) (alone s)) new_is
+    c.is_held.ensures ∙ ap (λ (s : Seen). is_held m (Open t) (alone s)) new_is

@@ -23,11 +23,11 @@ loop-k-preserved g c =
     let same : k ≤ k = omega arith in
     let behind : ℕ → Cell → Type 0 = (λ j x. seen x ≡ left_seen m t (get_or first d []) (seen (cell_at (get_or first (d + 1) []) j))) in
     let new : behind k y = c.left-left.ensures
-    ∙ ap (λ (x : Cell). left_seen m t (get_or rows d []) (seen x)) (c.cell-at-cell.ensures ∙ c.loop-k.invariant.4 k same)
+    ∙ ap (λ (x : Cell). left_seen m t (get_or rows d []) (seen x)) (c.cell_at-cell.ensures ∙ c.loop-k.invariant.4 k same)
     ∙ ap (λ (r : List Cell). left_seen m t r (seen (cell_at (get_or first (d + 1) []) k))) (c.loop-k.invariant.2 d below) in
-    let same-long : length c.put.new.row ≡ length (get_or rows (d + 1) []) = c.put.auto.row in (
+    let same_long : length c.put.new.row ≡ length (get_or rows (d + 1) []) = c.put.auto.row in (
       (let w = put.within in let z = c.loop-k.invariant.1 in omega arith),
-      ap length (get_or-set_same rows (d + 1) c.put.new.row [] level) ∙ same-long ∙ c.loop-k.invariant.1,
+      ap length (get_or-set_same rows (d + 1) c.put.new.row [] level) ∙ same_long ∙ c.loop-k.invariant.1,
       put_only rows (d + 1) k y _ level put.within put.put first c.loop-k.invariant.2,
       put_more rows (d + 1) k y _ level put.within put.put behind c.loop-k.invariant.3 new,
       put_behind rows (d + 1) k y _ level put.within put.put (get_or first (d + 1) []) c.loop-k.invariant.4,

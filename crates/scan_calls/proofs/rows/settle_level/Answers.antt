@@ -7,12 +7,12 @@ use Rattle.scan_calls.proofs.rows.settle_level.Goals as goal
 
 pub returns : goal.returns
 returns g c =
-    let s = c.settle-row.ensures in
+    let s = c.settle_row.ensures in
     let m : Machine = g.B.ShapeBook.machine c.args.ready.now.book in
     let rows : List (List Cell) = c.args.rows.now in
     let d : ℕ = c.args.d in
-    let last : List Cell = c.settle-row.new.row in
-    let left : ℕ = c.settle-row.result.1 in
+    let last : List Cell = c.settle_row.new.row in
+    let left : ℕ = c.settle_row.result.1 in
     let lt : d < length rows = omega arith in
     let room : left ≤ length last = omega (arith, s.kept.1) in
     record {

@@ -10,20 +10,20 @@ use Rattle.scan_calls.specs.Scans.{stack, model_of, table_of, first_lines}
 use Rattle.scan_calls.proofs.Lines.{hit, pass, clear, after_first, at_first, going, bare_yes, bare_no, other_is}
 use Rattle.scan_calls.proofs.scanning.Scan.check_close.Goals as goal
 
-pub returns-in-err-check-call : goal.returns-in-err-check-call
-returns-in-err-check-call g c =
+pub returns-in_err-check_call : goal.returns-in_err-check_call
+returns-in_err-check_call g c =
     let s = c.args.self.now in
     let m : Selecting = selecting (g.B.ShapeBook.machine s.ready.book) (g.B.SelectingBook.marks s.ready.book) in
     let p : Refusal → Bool = test (table_of s) m (model_of s) c.args.room (Close c.args.tag) in
-    let x = err_from_is_err_and c.from-residual.result c.from-residual.ensures.1 in
-    rw (x.1, x.2) (at_first p _ (c.in-err-check-call.ensures (Close c.args.tag)))
+    let x = err_from_is_err_and c.from_residual.result c.from_residual.ensures.1 in
+    rw (x.1, x.2) (at_first p _ (c.in_err-check_call.ensures (Close c.args.tag)))
 
 pub returns-then-self-eq0 : goal.returns-then-self-eq0
 returns-then-self-eq0 g c =
     let s = c.args.self.now in
     let m : Selecting = selecting (g.B.ShapeBook.machine s.ready.book) (g.B.SelectingBook.marks s.ready.book) in
     let p : Refusal → Bool = test (table_of s) m (model_of s) c.args.room (Close c.args.tag) in
-    let first = c.in-ok-check-call.ensures (Close c.args.tag) in
+    let first = c.in_ok-check_call.ensures (Close c.args.tag) in
     let on : s.ended ≡ false = going s.ended _ (clear p first_lines tt first).1.0 in
     after_first p _ first (hit _ _ _ (bare_yes s.ended s.tags s.depth on (omega arith)))
 
@@ -32,7 +32,7 @@ returns-then-self-tag g c =
     let s = c.args.self.now in
     let m : Selecting = selecting (g.B.ShapeBook.machine s.ready.book) (g.B.SelectingBook.marks s.ready.book) in
     let p : Refusal → Bool = test (table_of s) m (model_of s) c.args.room (Close c.args.tag) in
-    let first = c.in-ok-check-call.ensures (Close c.args.tag) in
+    let first = c.in_ok-check_call.ensures (Close c.args.tag) in
     let on : s.ended ≡ false = going s.ended _ (clear p first_lines tt first).1.0 in
     let some : 1 ≤ s.depth = omega arith in
     after_first p _ first (pass _ _ _ _ (bare_no s.ended s.tags s.depth on some)
@@ -43,7 +43,7 @@ returns g c =
     let s = c.args.self.now in
     let m : Selecting = selecting (g.B.ShapeBook.machine s.ready.book) (g.B.SelectingBook.marks s.ready.book) in
     let p : Refusal → Bool = test (table_of s) m (model_of s) c.args.room (Close c.args.tag) in
-    let first = c.in-ok-check-call.ensures (Close c.args.tag) in
+    let first = c.in_ok-check_call.ensures (Close c.args.tag) in
     let on : s.ended ≡ false = going s.ended _ (clear p first_lines tt first).1.0 in
     let some : 1 ≤ s.depth = omega arith in
     after_first p _ first (pass _ _ _ _ (bare_no s.ended s.tags s.depth on some)

@@ -10,13 +10,13 @@ use Rattle.scan_calls.specs.Scans.{stack, model_of, table_of, first_lines}
 use Rattle.scan_calls.proofs.Lines.{hit, pass, clear, after_first, at_first, going, deep_yes, deep_no}
 use Rattle.scan_calls.proofs.scanning.Scan.check_open.Goals as goal
 
-pub returns-in-err-check-call : goal.returns-in-err-check-call
-returns-in-err-check-call g c =
+pub returns-in_err-check_call : goal.returns-in_err-check_call
+returns-in_err-check_call g c =
     let s = c.args.self.now in
     let m : Selecting = selecting (g.B.ShapeBook.machine s.ready.book) (g.B.SelectingBook.marks s.ready.book) in
     let p : Refusal → Bool = test (table_of s) m (model_of s) c.args.room (Open c.args.tag) in
-    let x = err_from_is_err_and c.from-residual.result c.from-residual.ensures.1 in
-    rw (x.1, x.2) (at_first p _ (c.in-err-check-call.ensures (Open c.args.tag)))
+    let x = err_from_is_err_and c.from_residual.result c.from_residual.ensures.1 in
+    rw (x.1, x.2) (at_first p _ (c.in_err-check_call.ensures (Open c.args.tag)))
 
 pub returns-then-tag-ge-TAGS : goal.returns-then-tag-ge-TAGS
 returns-then-tag-ge-TAGS g c =
@@ -24,7 +24,7 @@ returns-then-tag-ge-TAGS g c =
     let m : Selecting = selecting (g.B.ShapeBook.machine s.ready.book) (g.B.SelectingBook.marks s.ready.book) in
     let p : Refusal → Bool = test (table_of s) m (model_of s) c.args.room (Open c.args.tag) in
     let t : ℕ = c.args.tag in
-    let first = c.in-ok-check-call.ensures (Open t) in
+    let first = c.in_ok-check_call.ensures (Open t) in
     let on : s.ended ≡ false = going s.ended _ (clear p first_lines tt first).1.0 in
     let big : tags ≤ t = omega arith in
     after_first p _ first (hit (leb tags t) _ _ (le-leb tags t big))
@@ -35,7 +35,7 @@ returns-then-self-ge-DEPTH g c =
     let m : Selecting = selecting (g.B.ShapeBook.machine s.ready.book) (g.B.SelectingBook.marks s.ready.book) in
     let p : Refusal → Bool = test (table_of s) m (model_of s) c.args.room (Open c.args.tag) in
     let t : ℕ = c.args.tag in
-    let first = c.in-ok-check-call.ensures (Open t) in
+    let first = c.in_ok-check_call.ensures (Open t) in
     let on : s.ended ≡ false = going s.ended _ (clear p first_lines tt first).1.0 in
     let small : t < tags = omega arith in
     let deep : most_open ≤ s.depth = omega arith in
@@ -43,13 +43,13 @@ returns-then-self-ge-DEPTH g c =
     (pass (leb tags t) _ _ _ (lt-leb tags t small)
     (hit _ _ _ (deep_yes s.ended s.tags s.depth on deep)))
 
-pub returns-then-self-ge-MOST-ITEMS : goal.returns-then-self-ge-MOST-ITEMS
-returns-then-self-ge-MOST-ITEMS g c =
+pub returns-then-self-ge-MOST_ITEMS : goal.returns-then-self-ge-MOST_ITEMS
+returns-then-self-ge-MOST_ITEMS g c =
     let s = c.args.self.now in
     let m : Selecting = selecting (g.B.ShapeBook.machine s.ready.book) (g.B.SelectingBook.marks s.ready.book) in
     let p : Refusal → Bool = test (table_of s) m (model_of s) c.args.room (Open c.args.tag) in
     let t : ℕ = c.args.tag in
-    let first = c.in-ok-check-call.ensures (Open t) in
+    let first = c.in_ok-check_call.ensures (Open t) in
     let on : s.ended ≡ false = going s.ended _ (clear p first_lines tt first).1.0 in
     let small : t < tags = omega arith in
     let shallow : s.depth < most_open = omega arith in
@@ -59,13 +59,13 @@ returns-then-self-ge-MOST-ITEMS g c =
     (pass _ _ _ _ (deep_no s.ended s.tags s.depth on shallow)
     (hit (leb most_items s.opened) _ _ (le-leb most_items s.opened many))))
 
-pub returns-then-would-overfill : goal.returns-then-would-overfill
-returns-then-would-overfill g c =
+pub returns-then-would_overfill : goal.returns-then-would_overfill
+returns-then-would_overfill g c =
     let s = c.args.self.now in
     let m : Selecting = selecting (g.B.ShapeBook.machine s.ready.book) (g.B.SelectingBook.marks s.ready.book) in
     let p : Refusal → Bool = test (table_of s) m (model_of s) c.args.room (Open c.args.tag) in
     let t : ℕ = c.args.tag in
-    let first = c.in-ok-check-call.ensures (Open t) in
+    let first = c.in_ok-check_call.ensures (Open t) in
     let on : s.ended ≡ false = going s.ended _ (clear p first_lines tt first).1.0 in
     let small : t < tags = omega arith in
     let shallow : s.depth < most_open = omega arith in
@@ -74,7 +74,7 @@ returns-then-would-overfill g c =
     (pass (leb tags t) _ _ _ (lt-leb tags t small)
     (pass _ _ _ _ (deep_no s.ended s.tags s.depth on shallow)
     (pass (leb most_items s.opened) _ _ _ (lt-leb most_items s.opened few)
-    (hit _ _ _ (sym c.if-would-overfill.ensures)))))
+    (hit _ _ _ (sym c.if-would_overfill.ensures)))))
 
 pub returns : goal.returns
 returns g c =
@@ -82,7 +82,7 @@ returns g c =
     let m : Selecting = selecting (g.B.ShapeBook.machine s.ready.book) (g.B.SelectingBook.marks s.ready.book) in
     let p : Refusal → Bool = test (table_of s) m (model_of s) c.args.room (Open c.args.tag) in
     let t : ℕ = c.args.tag in
-    let first = c.in-ok-check-call.ensures (Open t) in
+    let first = c.in_ok-check_call.ensures (Open t) in
     let on : s.ended ≡ false = going s.ended _ (clear p first_lines tt first).1.0 in
     let small : t < tags = omega arith in
     let shallow : s.depth < most_open = omega arith in
@@ -91,4 +91,4 @@ returns g c =
     (pass (leb tags t) _ _ _ (lt-leb tags t small)
     (pass _ _ _ _ (deep_no s.ended s.tags s.depth on shallow)
     (pass (leb most_items s.opened) _ _ _ (lt-leb most_items s.opened few)
-    (pass _ _ _ _ (sym c.if-would-overfill.ensures) refl))))
+    (pass _ _ _ _ (sym c.if-would_overfill.ensures) refl))))

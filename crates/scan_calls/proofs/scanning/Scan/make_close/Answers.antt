@@ -16,8 +16,8 @@ use Rattle.scan_calls.proofs.Lines.{clear, going, some_open, top_is, stack_more,
 use Rattle.scan_calls.proofs.Accepted.{model_is, answer_is, list_is}
 use Rattle.scan_calls.proofs.scanning.Scan.make_close.Goals as goal
 
-pub returns-in-err-check-close : goal.returns-in-err-check-close
-returns-in-err-check-close g c =
+pub returns-in_err-check_close : goal.returns-in_err-check_close
+returns-in_err-check_close g c =
     let s = c.args.self.now in
     let t : ℕ = c.args.tag in
     let m : Selecting = selecting (g.B.ShapeBook.machine s.ready.book) (g.B.SelectingBook.marks s.ready.book) in
@@ -25,10 +25,10 @@ returns-in-err-check-close g c =
     let old : Model = model_of s in
     let os : List Order = c.args.orders.now in
     let p : Refusal → Bool = test reach m old (length os) (Close t) in
-    let x = err_from_is_err_and c.from-residual.result c.from-residual.ensures.1 in
+    let x = err_from_is_err_and c.from_residual.result c.from_residual.ensures.1 in
     rw (x.1, x.2) (record {
       same = refl;
-      answer = err_is p scan_lines (tt {0}) (totals (length (due_at reach m old (Close t))) (next reach m old (Close t))) _ c.in-err-check-close.ensures;
+      answer = err_is p scan_lines (tt {0}) (totals (length (due_at reach m old (Close t))) (next reach m old (Close t))) _ c.in_err-check_close.ensures;
       list = refl;
       model = refl;
       unchanged = λ l e. refl;
@@ -43,14 +43,14 @@ returns g c =
     let old : Model = model_of s in
     let os : List Order = c.args.orders.now in
     let p : Refusal → Bool = test reach m old (length os) (Close t) in
-    let ok = c.in-ok-check-close.ensures in
+    let ok = c.in_ok-check_close.ensures in
     let free = clear p scan_lines (tt {0}) ok in
     let on : s.ended ≡ false = going s.ended _ free.1.0 in
-    let k = c.close-level-sent.ensures in
-    let sent : ℕ = c.close-level-sent.result.0 in
-    let left : ℕ = c.close-level-sent.result.1 in
-    let rows = c.close-level-sent.new.rows in
-    let later : List Order = c.close-level-sent.new.orders in
+    let k = c.close_level-sent.ensures in
+    let sent : ℕ = c.close_level-sent.result.0 in
+    let left : ℕ = c.close_level-sent.result.1 in
+    let rows = c.close_level-sent.new.rows in
+    let later : List Order = c.close_level-sent.new.orders in
     let event : ℕ = s.events + 1 in
     let number : event ≡ suc s.events = omega arith in
     let some : 1 ≤ s.depth = some_open s.ended s.tags s.depth on free.1.1.1.1.1.1.1.0 in

@@ -15,18 +15,18 @@ use Rattle.scan_calls.proofs.Lines.{clear, going, none_open, err_is, apart}
 use Rattle.scan_calls.proofs.Accepted.{model_is, answer_is, list_is}
 use Rattle.scan_calls.proofs.scanning.Scan.make_end.Goals as goal
 
-pub returns-in-err-check-end : goal.returns-in-err-check-end
-returns-in-err-check-end g c =
+pub returns-in_err-check_end : goal.returns-in_err-check_end
+returns-in_err-check_end g c =
     let s = c.args.self.now in
     let m : Selecting = selecting (g.B.ShapeBook.machine s.ready.book) (g.B.SelectingBook.marks s.ready.book) in
     let reach : ℕ → ℕ → Bool = table_of s in
     let old : Model = model_of s in
     let os : List Order = c.args.orders.now in
     let p : Refusal → Bool = test reach m old (length os) End in
-    let x = err_from_is_err_and c.from-residual.result c.from-residual.ensures.1 in
+    let x = err_from_is_err_and c.from_residual.result c.from_residual.ensures.1 in
     rw (x.1, x.2) (record {
       same = refl;
-      answer = err_is p scan_lines (tt {0}) (totals (length (due_at reach m old End)) (next reach m old End)) _ c.in-err-check-end.ensures;
+      answer = err_is p scan_lines (tt {0}) (totals (length (due_at reach m old End)) (next reach m old End)) _ c.in_err-check_end.ensures;
       list = refl;
       model = refl;
       unchanged = λ l e. refl;
@@ -40,14 +40,14 @@ returns g c =
     let old : Model = model_of s in
     let os : List Order = c.args.orders.now in
     let p : Refusal → Bool = test reach m old (length os) End in
-    let ok = c.in-ok-check-end.ensures in
+    let ok = c.in_ok-check_end.ensures in
     let free = clear p scan_lines (tt {0}) ok in
     let on : s.ended ≡ false = going s.ended _ free.1.0 in
-    let k = c.settle-level-sent.ensures in
-    let sent : ℕ = c.settle-level-sent.result.0 in
-    let left : ℕ = c.settle-level-sent.result.1 in
-    let rows = c.settle-level-sent.new.rows in
-    let later : List Order = c.settle-level-sent.new.orders in
+    let k = c.settle_level-sent.ensures in
+    let sent : ℕ = c.settle_level-sent.result.0 in
+    let left : ℕ = c.settle_level-sent.result.1 in
+    let rows = c.settle_level-sent.new.rows in
+    let later : List Order = c.settle_level-sent.new.orders in
     let event : ℕ = s.events + 1 in
     let number : event ≡ suc s.events = omega arith in
     let none : s.depth ≡ 0 = none_open s.ended s.tags s.depth on free.1.1.1.1.1.1.1.1.1.0 in

@@ -17,8 +17,8 @@ use Rattle.scan_calls.proofs.Lines.{clear, going, stack_set, err_is, apart}
 use Rattle.scan_calls.proofs.Accepted.{model_is, answer_is, list_is}
 use Rattle.scan_calls.proofs.scanning.Scan.make_open.Goals as goal
 
-pub returns-in-err-check-open : goal.returns-in-err-check-open
-returns-in-err-check-open g c =
+pub returns-in_err-check_open : goal.returns-in_err-check_open
+returns-in_err-check_open g c =
     let s = c.args.self.now in
     let t : ℕ = c.args.tag in
     let m : Selecting = selecting (g.B.ShapeBook.machine s.ready.book) (g.B.SelectingBook.marks s.ready.book) in
@@ -26,10 +26,10 @@ returns-in-err-check-open g c =
     let old : Model = model_of s in
     let os : List Order = c.args.orders.now in
     let p : Refusal → Bool = test reach m old (length os) (Open t) in
-    let x = err_from_is_err_and c.from-residual.result c.from-residual.ensures.1 in
+    let x = err_from_is_err_and c.from_residual.result c.from_residual.ensures.1 in
     rw (x.1, x.2) (record {
       same = refl;
-      answer = err_is p scan_lines (tt {0}) (totals (length (due_at reach m old (Open t))) (next reach m old (Open t))) _ c.in-err-check-open.ensures;
+      answer = err_is p scan_lines (tt {0}) (totals (length (due_at reach m old (Open t))) (next reach m old (Open t))) _ c.in_err-check_open.ensures;
       list = refl;
       model = refl;
       unchanged = λ l e. refl;
@@ -44,18 +44,18 @@ returns g c =
     let old : Model = model_of s in
     let os : List Order = c.args.orders.now in
     let p : Refusal → Bool = test reach m old (length os) (Open t) in
-    let ok = c.in-ok-check-open.ensures in
+    let ok = c.in_ok-check_open.ensures in
     let free = clear p scan_lines (tt {0}) ok in
     let on : s.ended ≡ false = going s.ended _ free.1.0 in
-    let k = c.settle-level-sent.ensures in
-    let sent : ℕ = c.settle-level-sent.result.0 in
-    let left : ℕ = c.settle-level-sent.result.1 in
-    let rows = c.settle-level-sent.new.rows in
-    let later : List Order = c.settle-level-sent.new.orders in
+    let k = c.settle_level-sent.ensures in
+    let sent : ℕ = c.settle_level-sent.result.0 in
+    let left : ℕ = c.settle_level-sent.result.1 in
+    let rows = c.settle_level-sent.new.rows in
+    let later : List Order = c.settle_level-sent.new.orders in
     let event : ℕ = s.events + 1 in
     let number : event ≡ suc s.events = omega arith in
-    let mid = c.open-level.new.rows in
-    let o = c.open-level.ensures in
+    let mid = c.open_level.new.rows in
+    let o = c.open_level.ensures in
     let d : ℕ = s.depth in
     let small : t < tags = (let z = leb-false tags t free.1.1.1.0 in omega arith) in
     let room : d < length s.tags = omega arith in

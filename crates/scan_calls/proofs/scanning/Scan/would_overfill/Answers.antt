@@ -8,15 +8,15 @@ use Rattle.scan_calls.specs.Scans.{model_of, table_of}
 use Rattle.scan_calls.proofs.Views.{few_held}
 use Rattle.scan_calls.proofs.scanning.Scan.would_overfill.Goals as goal
 
-pub returns-then-self-le-MOST-HELD : goal.returns-then-self-le-MOST-HELD
-returns-then-self-le-MOST-HELD g c =
+pub returns-then-self-le-MOST_HELD : goal.returns-then-self-le-MOST_HELD
+returns-then-self-le-MOST_HELD g c =
     let s = c.args.self.now in
     let m : Selecting = selecting (g.B.ShapeBook.machine s.ready.book) (g.B.SelectingBook.marks s.ready.book) in
     let n : ℕ = length (held_at (table_of s) m (model_of s) (Open c.args.tag)) in
     let some : 1 ≤ s.count = omega arith in
     let few : n ≤ s.count = few_held (table_of s) m.shape c.args.tag s.rows.cells s.depth s.count some _ in
-    let small : n ≤ most_held = (let z = c.if-self-le-MOST-HELD.true in omega arith) in
+    let small : n ≤ most_held = (let z = c.if-self-le-MOST_HELD.true in omega arith) in
     sym (le-ltb most_held n small)
 
 pub returns : goal.returns
-returns g c = let s = c.args.self.now in ap (ltb most_held) (c.held-inside.ensures (suc s.opened) (suc s.events))
+returns g c = let s = c.args.self.now in ap (ltb most_held) (c.held_inside.ensures (suc s.opened) (suc s.events))
