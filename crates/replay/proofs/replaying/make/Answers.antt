@@ -18,20 +18,20 @@ unfolding some
 returns g c =
     let s = c.args.scan.now in
     let m : Selecting = selecting (g.B.ShapeBook.machine s.ready.book) (g.B.SelectingBook.marks s.ready.book) in
-    let k = c.answer-to-answer.ensures in
-    let a : Result Totals Refusal = c.answer-to-answer.result in
+    let k = c.answer_to-answer.ensures in
+    let a : Result Totals Refusal = c.answer_to-answer.result in
     let e : Event = c.args.x.now.call in
-    let lent : List Order = c.as-mut-slice.result.now in
+    let lent : List Order = c.as_mut_slice.result.now in
     let own : List Order = vec_items c.args.x.now.orders in
-    let later : List Order = c.answer-to-answer.new.orders in
+    let later : List Order = c.answer_to-answer.new.orders in
     let old : Model = model_of s in
-    let new : Model = model_of c.answer-to-answer.new.scan in
+    let new : Model = model_of c.answer_to-answer.new.scan in
     record {
       same = k.same;
       made = record {
         call = refl;
-        answer = ap some (lent_answer (table_of s) m old new e lent own later a c.as-mut-slice.ensures.value k.answer k.list k.model);
-        list = with_items_is c.args.x.now.orders later (c.answer-to-answer.auto.orders ∙ c.as-mut-slice.ensures.len) ∙ lent_list (table_of s) m old new e lent own later a c.as-mut-slice.ensures.value k.answer k.list k.model;
+        answer = ap some (lent_answer (table_of s) m old new e lent own later a c.as_mut_slice.ensures.value k.answer k.list k.model);
+        list = with_items_is c.args.x.now.orders later (c.answer_to-answer.auto.orders ∙ c.as_mut_slice.ensures.len) ∙ lent_list (table_of s) m old new e lent own later a c.as_mut_slice.ensures.value k.answer k.list k.model;
       };
-      model = lent_model (table_of s) m old new e lent own later a c.as-mut-slice.ensures.value k.answer k.list k.model;
+      model = lent_model (table_of s) m old new e lent own later a c.as_mut_slice.ensures.value k.answer k.list k.model;
     }
