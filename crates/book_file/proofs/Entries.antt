@@ -1,5 +1,5 @@
 -- Where the entries of a table lie, and how large they are.
-use Rattle.std.proofs.Common.{◌≡◌, ℕ, zero, suc, ◌+◌, ◌*◌, ◌<◌, ◌≤◌, Bool, true, false, cond, ltb, List, [], ◌∷◌, length, get_or, sym, ap, subst, arith, ltb-false, ltb-true}
+use Rattle.std.proofs.Common.{◌≡◌, ℕ, zero, suc, ◌+◌, ◌*◌, ◌<◌, ◌≤◌, true, ltb, List, [], ◌∷◌, length, get_or, arith, ltb-true}
 use Rattle.std.proofs.lemmas.Bool.{and_parts, cond_both}
 use lib.Arith.{digits_lt}
 use Rattle.book_file.specs.Table.{below, column}

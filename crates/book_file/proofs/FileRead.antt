@@ -1,5 +1,5 @@
 -- Reading a file part by part.
-use Rattle.std.proofs.Common.{◌≡◌, ℕ, ◌+◌, ◌-◌, ◌≤◌, cond, ltb, List, length, drop, Ok, Err, Result, sym, refl, ap, ◌∙◌, le-ltb}
+use Rattle.std.proofs.Common.{◌≡◌, ℕ, ◌+◌, ◌-◌, ◌≤◌, cond, ltb, List, length, drop, Ok, Err, Result, sym, ap, ◌∙◌, le-ltb}
 use Rattle.std.proofs.lemmas.List.{drop-drop}
 use Rattle.std.proofs.lemmas.Bool.{cond-false}
 use Rattle.book.specs.declared.fault.BookFault.{BookFault}

@@ -1,9 +1,8 @@
 -- Reading the tables one after another.
-use Rattle.std.proofs.Common.{◌≡◌, ℕ, ◌+◌, ◌*◌, List, take, drop, Ok, Err, Result, sym, refl, ap, ◌∙◌, arith}
+use Rattle.std.proofs.Common.{◌≡◌, ℕ, ◌+◌, ◌*◌, List, take, drop, Ok, sym, ap, ◌∙◌, arith}
 use Rattle.std.proofs.lemmas.List.{drop-drop}
-use Rattle.book.specs.declared.fault.BookFault.{BookFault}
 use Rattle.book_file.specs.declared.header.Header.{Header}
-use Rattle.book_file.specs.Files.{Rows, entries, mark_size, table_at, tables_at, tables_size, then}
+use Rattle.book_file.specs.Files.{entries, mark_size, table_at, tables_at, tables_size}
 
 same_table : (bound size at at' : ℕ) (bs bs' : List ℕ) → at ≡ at' → bs ≡ bs' → table_at bound at (take size bs) ≡ table_at bound at' (take size bs')
 same_table bound size at at' bs bs' p q = ap (λ n. table_at bound n (take size bs)) p ∙ ap (λ xs. table_at bound at' (take size xs)) q

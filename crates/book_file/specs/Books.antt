@@ -2,7 +2,6 @@
 use Rattle.std.specs.Prelude.{ℕ, ◌*◌, Bool, cond, ◌&&◌, List, [], length, ◌==◌}
 use Rattle.book_file.specs.declared.file.SelectingFile.{SelectingFile}
 use Rattle.book_file.specs.declared.file.ShapeFile.{ShapeFile}
-use Rattle.book_file.specs.declared.table.SelectingTableBook.{SelectingTableBook}
 use Rattle.book_file.specs.declared.table.TableBook.{TableBook}
 use Rattle.book_file.specs.Parts.{shape_tables}
 use Rattle.book_file.specs.Table.{Table, below, filled, no_table, table}

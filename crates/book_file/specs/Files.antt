@@ -1,7 +1,7 @@
 -- Book files, version 1: what they hold, how they are written, and how they are read.
-use Rattle.std.specs.Prelude.{◌≡◌, ℕ, zero, suc, ◌+◌, ◌-◌, ◌*◌, Bool, true, false, cond, not, ◌&&◌, ltb, List, [], ◌∷◌, ◌++◌, length, take, drop, Some, None, Ok, Err, Option, Result, ◌==◌, nat_le, nat_lt, slice_index}
+use Rattle.std.specs.Prelude.{◌≡◌, ℕ, zero, suc, ◌+◌, ◌-◌, ◌*◌, Bool, true, cond, ◌&&◌, ltb, List, [], ◌∷◌, ◌++◌, length, take, drop, Some, None, Ok, Err, Option, Result, ◌==◌, nat_le, nat_lt, slice_index}
 use Rattle.std.specs.Borrow.{Bor}
-use Rattle.name_bytes.specs.Names.{all, between, name_byte, name_limit, name_start, right_name}
+use Rattle.name_bytes.specs.Names.{between, name_byte, name_limit, name_start, right_name}
 use Rattle.book.specs.Limits.{most_states, tags}
 use Rattle.book.specs.declared.fault.BookFault.{BookFault}
 use Rattle.book.specs.declared.fault.BookFault.TheVariants.{CutOff, ExtraByte, HeaderNumber, Letters, NameByte, ShortHeader, TableEntry, Version}

@@ -1,5 +1,5 @@
 -- The parts of a file that were read, as what they hold.
-use Rattle.std.specs.Prelude.{◌≡◌, ℕ, ◌*◌, [], Ok, Err, Result}
+use Rattle.std.specs.Prelude.{◌*◌, [], Ok, Err, Result}
 use Rattle.book.specs.declared.fault.BookFault.{BookFault}
 use Rattle.book_file.specs.declared.header.Header.{Header}
 use Rattle.book_file.specs.declared.reading.Tables.{Tables}

@@ -1,7 +1,7 @@
 -- What the tables of a book file mean.
-use Rattle.std.specs.Prelude.{◌≡◌, ℕ, zero, suc, ◌+◌, ◌-◌, ◌*◌, ◌<◌, ◌≤◌, Bool, true, false, cond, ◌&&◌, ltb, ◌⊎◌, List, [], ◌∷◌, length, ◌==◌, nat_le, nat_lt, slice_index, refl}
+use Rattle.std.specs.Prelude.{◌≡◌, ℕ, zero, suc, ◌+◌, ◌-◌, ◌*◌, ◌≤◌, Bool, true, false, cond, ◌&&◌, ltb, ◌⊎◌, List, [], ◌∷◌, length, ◌==◌, nat_le, nat_lt, slice_index}
 use Rattle.std.proofs.Common.{⊎_elim, zero-le, arith, ltb-true, le-ltb}
-use Rattle.std.proofs.lemmas.Bool.{and_parts, and_left, and_right, cond-false, cond_both}
+use Rattle.std.proofs.lemmas.Bool.{and_parts, and_left, and_right, cond-false}
 use Rattle.name_bytes.specs.Names.{all}
 use Rattle.book.specs.Limits.{tags, most_states}
 use Rattle.book.specs.Machines.{Machine, Marks, Lawful, LawfulMarks}

@@ -84,7 +84,7 @@ fn names_and_their_tags(rt: HostRuntime) -> Result<(), Fail> {
     let Some(name) = names.name_of(2) else {
         return Err(Fail::new("no name"));
     };
-    assert!(rt; name == b"seal");
+    assert!(rt; name == b"seal".as_slice());
     Ok(())
 }
 

@@ -1,5 +1,5 @@
 -- What is printed of a book file, line by line.
-use Rattle.std.specs.Prelude.{◌≡◌, ℕ, zero, suc, ◌-◌, Bool, true, false, cond, List, [], ◌∷◌, ◌++◌, is_err, Some, None, Ok, Err, vec_items, codes, decimal, Option, Result, ◌==◌}
+use Rattle.std.specs.Prelude.{◌≡◌, ℕ, zero, suc, ◌-◌, cond, List, [], ◌∷◌, ◌++◌, is_err, Some, None, Ok, Err, vec_items, codes, decimal, Option, Result, ◌==◌}
 use Rattle.std.specs.Option.{unwrap_or}
 use Rattle.book.specs.Faults.{fault_number, fault_place}
 use Rattle.book.specs.declared.fault.BookFault.{BookFault}

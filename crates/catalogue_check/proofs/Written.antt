@@ -1,6 +1,6 @@
 -- The printed bytes: what one addition after another makes, and the lines of tokens that show tags.
 use Rattle.std.proofs.Common.{◌≡◌, ℕ, zero, suc, ◌+◌, ◌-◌, ◌<◌, ◌≤◌, List, [], ◌∷◌, ◌++◌, length, get_or, drop, is_some, Some, None, Option, sym, refl, ap, ◌∙◌, append_assoc, append-nil, add-one, arith, drop-cons}
-use Rattle.catalogue_check.specs.Lines.{depth_after, indent, last_line, line, lines, refuses, report, token_line, token_lines}
+use Rattle.catalogue_check.specs.Lines.{depth_after, indent, last_line, lines, refuses, report, token_line, token_lines}
 use Rattle.markup.specs.Grammar.{Tag, closes, opens}
 use Rattle.markup.specs.Reading.{Ending, Reading, reading}
 use Rattle.markup.specs.Whole.{AllShown, ending}

@@ -1,12 +1,12 @@
 -- What has been read where a reader stands: a right text, and an unfinished piece behind it.
-use Rattle.std.proofs.Common.{◌≡◌, ℕ, suc, ◌+◌, ◌<◌, ◌≤◌, Bool, true, false, cond, not, ◌&&◌, ◌||◌, eqb, ltb, leb, ◌⊎◌, List, [], ◌∷◌, ◌++◌, length, get_or, codes, sym, refl, ap, ◌∙◌, subst, inl, inr, append_assoc, append-nil, arith, length-append}
-use Rattle.std.proofs.lemmas.Bool.{and_parts, and_from, eqb-true, eqb-false, ltb-true, ltb-false, cond_both}
-use Rattle.name_bytes.specs.Names.{name_start, name_byte, all}
-use Rattle.markup.specs.Grammar.{white, allowed, plain, Space, Name, name, Reference, amp, lt, gt, quot, apos, reference, Char, itself, referred, char, chars, Quote, single, double, sign, Opening, opening, Attribute, attribute, attributes, Remark, byte, hyphen, remark, remarks, Piece, content, comment, starting, empty, ending, piece, markup, Tag, opens, closes, tag, tags, Right}
-use Rattle.markup.specs.Reading.{Where, text, value, stop_of, Mode, in_content, ampersand, ampersand_a, awaiting, angle, bang, bang_hyphen, in_comment, one_hyphen, two_hyphens, naming, spaced, naming_attribute, attribute_named, equals, valued, slashed, slash, naming_end, end_spaced, Step, go, stop, on, in_text, shut, behind, end_shut, leave, equal, next}
-use Rattle.markup.specs.Law.{RightThen, NameMayBegin, ReferenceMayBegin, OtherForm, BreaksReference, ExceedsName}
+use Rattle.std.proofs.Common.{◌≡◌, ℕ, ◌+◌, ◌<◌, true, List, [], ◌∷◌, ◌++◌, length, codes, sym, refl, ap, ◌∙◌, append_assoc, append-nil, arith, length-append}
+use Rattle.std.proofs.lemmas.Bool.{and_from}
+use Rattle.name_bytes.specs.Names.{name_start, name_byte}
+use Rattle.markup.specs.Grammar.{white, Space, Name, name, Reference, reference, Char, char, chars, sign, Opening, opening, Attribute, attribute, attributes, Remark, remark, remarks, Piece, piece, markup, Tag, tag, tags, Right}
+use Rattle.markup.specs.Reading.{Where, text, value, Mode, in_content, ampersand, ampersand_a, awaiting, angle, bang, bang_hyphen, in_comment, one_hyphen, two_hyphens, naming, spaced, naming_attribute, attribute_named, equals, valued, slashed, slash, naming_end, end_spaced, Step, go, stop}
+use Rattle.markup.specs.Law.{OtherForm, BreaksReference, ExceedsName}
 use Rattle.markup.proofs.Names.{goes_on, right_name_from, starts}
-use Rattle.markup.proofs.ByteClasses.{all_append, start_name_byte}
+use Rattle.markup.proofs.ByteClasses.{all_append}
 
 -- one more of each
 abbrev pub space_none : Space

@@ -1,8 +1,8 @@
 -- Classes of bytes, and places behind a list of bytes.
-use Rattle.std.proofs.Common.{◌≡◌, ℕ, suc, ◌+◌, ◌<◌, ◌≤◌, Bool, true, false, cond, ◌&&◌, ◌||◌, eqb, ltb, leb, ◌⊎◌, List, [], ◌∷◌, ◌++◌, length, sym, refl, ap, ◌∙◌, subst, inl, inr, append_assoc, arith}
-use Rattle.std.proofs.lemmas.Bool.{eqb-true, or_cases, and_parts, and_from, or_left, or_right, cases_Bool, both_ways}
-use Rattle.name_bytes.specs.Names.{between, name_start, name_byte, all}
-use Rattle.markup.specs.Grammar.{white, allowed}
+use Rattle.std.proofs.Common.{◌≡◌, ℕ, suc, ◌+◌, Bool, true, false, ◌||◌, eqb, ◌⊎◌, List, [], ◌∷◌, ◌++◌, length, sym, refl, ◌∙◌, subst, inl, inr, arith}
+use Rattle.std.proofs.lemmas.Bool.{eqb-true, or_cases, and_parts, and_from, or_left, cases_Bool, both_ways}
+use Rattle.name_bytes.specs.Names.{name_start, name_byte, all}
+use Rattle.markup.specs.Grammar.{white}
 
 -- white space is one of four bytes
 pub by_white : (P : ℕ → Type 0) → P 32 → P 9 → P 10 → P 13 → (b : ℕ) → white b ≡ true → P b

@@ -1,11 +1,11 @@
 -- The law of readings: each text has one reading, and it is the one found byte by byte.
-use Rattle.std.proofs.Common.{◌≡◌, ℕ, suc, ◌+◌, ◌<◌, ◌≤◌, Bool, true, false, ◌⊎◌, List, [], ◌∷◌, ◌++◌, length, sym, refl, ap, ◌∙◌, subst, inl, inr, append_assoc, append-nil, arith, length-append}
+use Rattle.std.proofs.Common.{◌≡◌, ℕ, suc, ◌+◌, ◌≤◌, ◌⊎◌, List, [], ◌∷◌, ◌++◌, length, sym, refl, ap, ◌∙◌, subst, inl, inr, append_assoc, append-nil, arith, length-append}
 use Rattle.markup.specs.Grammar.{Tag, Right, Viable}
-use Rattle.markup.specs.Reading.{Mode, Step, stop, next, Ending, finish, failed, Reading, giving, carried, read, reading}
-use Rattle.markup.specs.Law.{OtherForm, BreaksReference, ExceedsName, FaultOf, other_form, broken_reference, long_name, other_byte, TagsRead, Reads, right, cut, refused}
+use Rattle.markup.specs.Reading.{Mode, Step, stop, next, Ending, finish, failed, Reading, carried, read, reading}
+use Rattle.markup.specs.Law.{FaultOf, other_form, broken_reference, long_name, other_byte, TagsRead, Reads, right, cut, refused}
 use Rattle.markup.specs.Law.{OneReading}
 use Rattle.markup.proofs.RightTexts.{right_finishes}
-use Rattle.markup.proofs.Begun.{Begun, Reason, by_form, by_reference, by_name, by_byte_alone}
+use Rattle.markup.proofs.Begun.{Reason, by_form, by_reference, by_name, by_byte_alone}
 use Rattle.markup.proofs.Tracked.{Track, Outcome, o_right, o_cut, o_refused, outcome, number, reason_number, viable, tags_read}
 use Rattle.markup.proofs.Refused.{other_form_ends, name_ends, reference_ends}
 

@@ -1,13 +1,13 @@
 -- What the grammar says of a refused byte fixes how the reading ends.
-use Rattle.std.proofs.Common.{◌≡◌, ℕ, suc, ◌+◌, ◌<◌, ◌≤◌, Bool, true, false, cond, eqb, ltb, ◌⊎◌, List, [], ◌∷◌, ◌++◌, length, get_or, codes, sym, refl, ap, ◌∙◌, subst, inl, inr, append_assoc, append-nil, arith, length-append}
+use Rattle.std.proofs.Common.{◌≡◌, ℕ, suc, ◌+◌, ◌≤◌, Bool, true, cond, eqb, ltb, List, [], ◌∷◌, ◌++◌, length, codes, sym, refl, ap, ◌∙◌, subst, inl, inr, append_assoc, arith, length-append}
 use Rattle.std.proofs.lemmas.Bool.{eq-eqb, ne_eqb, cond-true, cond-false, le-ltb}
 use Rattle.name_bytes.specs.Names.{name_start, name_byte, all}
-use Rattle.markup.specs.Grammar.{white, Space, Name, name, Reference, amp, lt, gt, quot, apos, reference, Char, chars, Quote, sign, Opening, opening, Attribute, attributes, Tag, Right, Viable}
-use Rattle.markup.specs.Reading.{Where, text, value, Mode, in_content, ampersand, ampersand_a, awaiting, angle, bang, bang_hyphen, naming, spaced, naming_attribute, equals, naming_end, slash, Step, go, stop, on, in_text, next, Ending, finish, failed, Reading, giving, over, carried, read, reading}
-use Rattle.markup.specs.Law.{RightThen, NameMayBegin, ReferenceMayBegin, OtherForm, BreaksReference, ExceedsName}
+use Rattle.markup.specs.Grammar.{white, Name, name, Reference, amp, lt, gt, quot, apos, reference, chars, sign, opening, attributes, Tag}
+use Rattle.markup.specs.Reading.{Where, text, value, Mode, in_content, ampersand, ampersand_a, awaiting, angle, bang, bang_hyphen, naming, spaced, naming_attribute, equals, naming_end, slash, Step, stop, in_text, next, failed, Reading, giving, read, reading}
+use Rattle.markup.specs.Law.{ReferenceMayBegin, OtherForm, BreaksReference, ExceedsName}
 use Rattle.markup.proofs.Names.{goes_on, starts}
 use Rattle.markup.proofs.ByteClasses.{start_no_white, past, past_length}
-use Rattle.markup.proofs.RightTexts.{step, moved, reads_right, names_start, names_end, names_attribute, stays_spaced, Behind, behind_white, reads_tag, reads_opening, past_append, past_opening, spelled_opening, opening_is, opens_quote, reads_chars}
+use Rattle.markup.proofs.RightTexts.{step, moved, reads_right, names_start, names_end, names_attribute, stays_spaced, behind_white, reads_tag, reads_opening, past_append, past_opening, spelled_opening, opening_is, opens_quote, reads_chars}
 
 abbrev Ends : List ℕ → ℕ → ℕ → Type 0
 Ends s n p = (reading s).ended ≡ failed n p

@@ -1,9 +1,9 @@
 -- The reading of what the grammar writes.
-use Rattle.std.proofs.Common.{◌≡◌, ℕ, suc, ◌+◌, ◌<◌, ◌≤◌, Bool, true, false, cond, not, ◌&&◌, ◌||◌, eqb, ltb, leb, ◌⊎◌, List, [], ◌∷◌, ◌++◌, length, codes, sym, refl, ap, ◌∙◌, subst, inl, inr, append_assoc, append-nil, arith, length-append}
+use Rattle.std.proofs.Common.{◌≡◌, ℕ, suc, ◌+◌, ◌<◌, ◌≤◌, Bool, true, false, cond, eqb, ltb, List, [], ◌∷◌, ◌++◌, length, codes, sym, refl, ap, ◌∙◌, append_assoc, append-nil, arith, length-append}
 use Rattle.std.proofs.lemmas.Bool.{and_parts, cond-true, cond-false, lt-ltb}
-use Rattle.name_bytes.specs.Names.{between, name_start, name_byte, all}
-use Rattle.markup.specs.Grammar.{white, allowed, plain, Space, Name, name, Reference, amp, lt, gt, quot, apos, reference, Char, itself, referred, char, chars, Quote, single, double, sign, Opening, opening, Attribute, attribute, attributes, Remark, byte, hyphen, remark, remarks, Piece, content, comment, starting, empty, ending, piece, markup, Tag, opens, closes, tag, tags, Right}
-use Rattle.markup.specs.Reading.{Where, text, value, stop_of, Mode, in_content, ampersand, ampersand_a, awaiting, angle, bang, bang_hyphen, in_comment, one_hyphen, two_hyphens, naming, spaced, naming_attribute, attribute_named, equals, valued, slashed, slash, naming_end, end_spaced, Step, go, stop, on, in_text, shut, behind, end_shut, leave, equal, next, Ending, finish, failed, Reading, giving, over, carried, read, reading}
+use Rattle.name_bytes.specs.Names.{name_start, name_byte, all}
+use Rattle.markup.specs.Grammar.{white, allowed, plain, Name, name, Reference, amp, lt, gt, quot, apos, reference, Char, itself, referred, char, chars, Quote, single, double, sign, Opening, opening, Attribute, attribute, attributes, Remark, byte, hyphen, remarks, Piece, content, comment, starting, empty, ending, piece, markup, Tag, opens, closes, tag, tags, Right}
+use Rattle.markup.specs.Reading.{Where, text, value, stop_of, Mode, in_content, angle, in_comment, one_hyphen, naming, spaced, naming_attribute, attribute_named, equals, valued, slashed, slash, naming_end, end_spaced, Step, go, on, in_text, behind, next, finish, Reading, giving, carried, read, reading}
 use Rattle.markup.proofs.Names.{goes_on, short, starts}
 use Rattle.markup.proofs.ByteClasses.{white_no_name_byte, start_no_white, past, past_length}
 

@@ -1,7 +1,7 @@
 -- Reading along a slice by its index: what the byte at a place does to the reading from there, mode by mode.
-use Rattle.std.proofs.Common.{◌≡◌, ℕ, suc, ◌+◌, ◌-◌, ◌<◌, ◌≤◌, Bool, true, false, cond, eqb, ltb, ◌⊎◌, List, [], ◌∷◌, ◌++◌, length, get_or, drop, Ok, Err, Result, sym, refl, ap, ◌∙◌, subst, inl, inr, add-one, arith, drop-cons}
+use Rattle.std.proofs.Common.{◌≡◌, ℕ, suc, ◌+◌, ◌-◌, ◌<◌, ◌≤◌, Bool, true, false, cond, eqb, ltb, ◌⊎◌, List, [], ◌∷◌, length, get_or, drop, Ok, Err, Result, sym, refl, ap, ◌∙◌, inl, inr, add-one, arith, drop-cons}
 use Rattle.std.proofs.lemmas.List.{drop_all}
-use Rattle.markup.specs.Reading.{Where, text, value, stop_of, Mode, awaiting, in_content, naming, spaced, naming_attribute, attribute_named, equals, valued, slashed, naming_end, end_spaced, angle, slash, bang, bang_hyphen, in_text, shut, behind, equal, end_shut, leave, Step, go, stop, on, next, over, in_comment, one_hyphen, Ending, failed, Reading, giving, carried, read}
+use Rattle.markup.specs.Reading.{Where, value, stop_of, Mode, awaiting, in_content, naming, spaced, naming_attribute, attribute_named, equals, valued, slashed, naming_end, end_spaced, angle, slash, bang, bang_hyphen, in_text, shut, Step, stop, on, next, over, in_comment, one_hyphen, Ending, failed, giving, carried, read}
 use Rattle.markup.specs.declared.fault.ReaderFault.{ReaderFault}
 use Rattle.markup.specs.declared.piece.Found.{Found}
 use Rattle.markup.specs.declared.piece.Found.TheVariants.{Finish, Comment, Start, End}
@@ -9,10 +9,10 @@ use Rattle.markup.specs.declared.comment.CommentPart.{CommentPart}
 use Rattle.markup.specs.declared.comment.CommentPart.TheVariants.{Goes as RemarkGoes, Ends as RemarkEnds}
 use Rattle.std.proofs.lemmas.Bool.{eqb-true, eq-eqb, ne_eqb, cond-true, cond-false, lt-ltb, le-ltb, cases_lt}
 use Rattle.name_bytes.specs.Names.{name_start, name_byte}
-use Rattle.markup.specs.Grammar.{plain, white, Quote, single, double, sign, Tag, opens, closes}
-use Rattle.markup.proofs.ByteClasses.{start_no_white, white_no_name_byte, start_name_byte}
+use Rattle.markup.specs.Grammar.{plain, white, Quote, single, double, sign, closes}
+use Rattle.markup.proofs.ByteClasses.{start_no_white}
 use Rattle.markup.specs.Faults.{fault_ending}
-use Rattle.markup.specs.Parts.{from, Named, Skips, Stays, Comments, Goes, Way, Fails, Naming, start_tags, Finds, awaiting_all}
+use Rattle.markup.specs.Parts.{from, Named, Skips, Stays, Comments, Way, Fails, Naming, start_tags, Finds, awaiting_all}
 use Rattle.markup.specs.declared.fault.ReaderFault.TheVariants.{CutOff}
 
 -- ## One byte

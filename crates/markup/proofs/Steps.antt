@@ -1,13 +1,12 @@
 -- What a byte does to what has been read.
-use Rattle.std.proofs.Common.{◌≡◌, ℕ, suc, ◌+◌, ◌<◌, ◌≤◌, Bool, true, false, cond, not, ◌&&◌, ◌||◌, eqb, ltb, leb, ◌⊎◌, List, [], ◌∷◌, ◌++◌, length, get_or, codes, sym, refl, ap, ◌∙◌, subst, inl, inr, append_assoc, append-nil, arith, length-append}
-use Rattle.std.proofs.lemmas.Bool.{and_parts, and_from, eqb-true, eqb-false, ltb-true, ltb-false, cond_both}
+use Rattle.std.proofs.Common.{◌≡◌, ℕ, suc, ◌+◌, ◌<◌, true, false, eqb, ltb, List, [], ◌∷◌, ◌++◌, length, get_or, codes, sym, refl, ap, ◌∙◌, subst, inl, inr, append_assoc, append-nil, arith, length-append}
+use Rattle.std.proofs.lemmas.Bool.{and_from, eqb-true, eqb-false, ltb-true, ltb-false, cond_both}
 use Rattle.name_bytes.specs.Names.{name_start, name_byte, all}
-use Rattle.markup.specs.Grammar.{white, allowed, plain, Space, Name, name, Reference, amp, lt, gt, quot, apos, reference, Char, itself, referred, char, chars, Quote, single, double, sign, Opening, opening, Attribute, attribute, attributes, Remark, byte, hyphen, remark, remarks, Piece, content, comment, starting, empty, ending, piece, markup, Tag, opens, closes, tag, tags, Right}
-use Rattle.markup.specs.Reading.{Where, text, value, stop_of, Mode, in_content, ampersand, ampersand_a, awaiting, angle, bang, bang_hyphen, in_comment, one_hyphen, two_hyphens, naming, spaced, naming_attribute, attribute_named, equals, valued, slashed, slash, naming_end, end_spaced, Step, go, stop, on, in_text, shut, behind, end_shut, leave, equal, next}
-use Rattle.markup.specs.Law.{RightThen, NameMayBegin, ReferenceMayBegin, OtherForm, BreaksReference, ExceedsName}
+use Rattle.markup.specs.Grammar.{white, allowed, plain, Space, Name, name, Reference, amp, lt, gt, quot, apos, reference, Char, itself, referred, char, chars, Quote, single, double, sign, Opening, opening, Attribute, attributes, byte, hyphen, remarks, content, comment, starting, empty, ending, Tag, opens, closes, Right}
+use Rattle.markup.specs.Reading.{Where, text, value, stop_of, Mode, in_content, ampersand, ampersand_a, awaiting, angle, bang, bang_hyphen, in_comment, one_hyphen, two_hyphens, naming, spaced, naming_attribute, attribute_named, equals, valued, slashed, slash, naming_end, end_spaced, go, on, in_text, shut, behind, end_shut, leave, equal, next}
+use Rattle.markup.specs.Law.{NameMayBegin, ReferenceMayBegin}
 use Rattle.markup.proofs.Names.{short}
-use Rattle.markup.proofs.ByteClasses.{all_append, start_name_byte}
-use Rattle.markup.proofs.Begun.{space_none, space_more, name_one, name_more, chars_more, attributes_more, remarks_more, right_as, right_more, After, after_more, after_as, Started, started_as, started_more, Content, Sole, Begun, Reason, by_form, by_reference, by_name, by_byte_alone, Holds}
+use Rattle.markup.proofs.Begun.{space_none, space_more, name_one, name_more, chars_more, attributes_more, remarks_more, right_as, right_more, after_more, after_as, Started, started_as, started_more, Content, Sole, Begun, Reason, by_form, by_reference, by_name, by_byte_alone, Holds}
 
 -- the ways of a step
 on_holds : (ts : List Tag) (u : List ℕ) (b : ℕ) (m : Mode) → Begun m ts (u ++ (b ∷ [])) → Holds ts u b (on m)

@@ -1,11 +1,11 @@
 -- A reading from its first byte to its end.
-use Rattle.std.proofs.Common.{◌≡◌, ℕ, suc, ◌+◌, ◌<◌, ◌≤◌, Bool, true, false, cond, eqb, ltb, ◌⊎◌, List, [], ◌∷◌, ◌++◌, length, codes, sym, refl, ap, ◌∙◌, subst, inl, inr, append_assoc, append-nil, arith, length-append}
+use Rattle.std.proofs.Common.{◌≡◌, ℕ, suc, ◌≤◌, eqb, List, [], ◌∷◌, ◌++◌, length, codes, sym, refl, ap, ◌∙◌, subst, append_assoc, append-nil, arith, length-append}
 use Rattle.std.proofs.lemmas.Bool.{eq-eqb, cond-true}
-use Rattle.markup.specs.Grammar.{Quote, single, double, sign, Tag, Right, Viable}
-use Rattle.markup.specs.Reading.{Where, text, value, Mode, in_content, ampersand, ampersand_a, awaiting, angle, bang, bang_hyphen, in_comment, one_hyphen, two_hyphens, naming, spaced, naming_attribute, attribute_named, equals, valued, slashed, slash, naming_end, end_spaced, Step, go, stop, on, in_text, next, Ending, finish, failed, Reading, giving, over, carried, read, reading}
+use Rattle.markup.specs.Grammar.{single, double, sign, Tag, Right, Viable}
+use Rattle.markup.specs.Reading.{Where, text, value, Mode, in_content, ampersand, ampersand_a, awaiting, angle, bang, bang_hyphen, in_comment, one_hyphen, two_hyphens, naming, spaced, naming_attribute, attribute_named, equals, valued, slashed, slash, naming_end, end_spaced, Step, go, stop, in_text, next, Ending, finish, failed, Reading, giving, over, carried, read, reading}
 use Rattle.markup.specs.Law.{TagsRead}
-use Rattle.markup.proofs.RightTexts.{moved, giving_giving, reads_right, right_finishes}
-use Rattle.markup.proofs.Begun.{right_as, After, Started, Content, Begun, Reason, by_form, by_reference, by_name, by_byte_alone, Holds}
+use Rattle.markup.proofs.RightTexts.{moved, giving_giving, reads_right}
+use Rattle.markup.proofs.Begun.{After, Content, Begun, Reason, by_form, by_reference, by_name, by_byte_alone, Holds}
 use Rattle.markup.proofs.Steps.{holds}
 
 -- from u on the reading goes on in the mode m

@@ -1,6 +1,6 @@
 -- What each function of the reader owes, as equations of the reading (specs/Reading): from a place and a mode it comes to another
 -- place and mode, or ends with a fault.
-use Rattle.std.specs.Prelude.{◌≡◌, ℕ, suc, ◌+◌, ◌-◌, ◌<◌, ◌≤◌, Bool, true, false, List, [], ◌∷◌, length, drop, Ok, Err, Result, ◌==◌, slice_index}
+use Rattle.std.specs.Prelude.{◌≡◌, ℕ, ◌+◌, ◌-◌, ◌<◌, ◌≤◌, Bool, true, false, List, [], ◌∷◌, length, drop, Ok, Err, Result, ◌==◌, slice_index}
 use Rattle.markup.specs.declared.fault.ReaderFault.{ReaderFault}
 use Rattle.markup.specs.declared.fault.ReaderFault.TheVariants.{CutOff}
 use Rattle.markup.specs.declared.tag.TagEnd.{TagEnd}
@@ -9,8 +9,8 @@ use Rattle.markup.specs.declared.piece.Found.TheVariants.{Finish, Comment, Start
 use Rattle.markup.specs.declared.comment.CommentPart.{CommentPart}
 use Rattle.markup.specs.declared.comment.CommentPart.TheVariants.{Goes as RemarkGoes, Ends as RemarkEnds}
 use Rattle.name_bytes.specs.Names.{name_byte, name_limit}
-use Rattle.markup.specs.Grammar.{white, plain, Quote, sign, Tag, opens, closes}
-use Rattle.markup.specs.Reading.{Where, text, stop_of, Mode, in_content, in_comment, one_hyphen, awaiting, value, equals, valued, spaced, shut, carried, end_spaced, giving, Step, stop, on, next, finish, failed, Ending, Reading, read, reading}
+use Rattle.markup.specs.Grammar.{plain, Quote, sign, Tag, opens, closes}
+use Rattle.markup.specs.Reading.{Where, text, stop_of, Mode, in_content, in_comment, one_hyphen, awaiting, value, equals, valued, spaced, shut, carried, end_spaced, giving, stop, on, next, finish, Reading, read}
 use Rattle.markup.specs.Faults.{fault_ending}
 
 -- the rest of the text s, from the place p in a mode

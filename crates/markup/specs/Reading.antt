@@ -1,5 +1,5 @@
 -- Reading byte by byte: where a reader stands, and what the next byte does.
-use Rattle.std.specs.Prelude.{◌≡◌, ℕ, suc, ◌+◌, Bool, true, false, cond, List, [], ◌∷◌, ◌++◌, ◌==◌, nat_lt}
+use Rattle.std.specs.Prelude.{ℕ, suc, ◌+◌, cond, List, [], ◌∷◌, ◌++◌, ◌==◌, nat_lt}
 use Rattle.name_bytes.specs.Names.{name_start, name_byte, name_limit}
 use Rattle.markup.specs.Grammar.{white, allowed, plain, Quote, single, double, sign, Tag, opens, closes}
 

@@ -1,7 +1,7 @@
 -- What a reader has yet to give, and what one call gives.
 use Rattle.std.specs.Prelude.{◌≡◌, ℕ, ◌+◌, ◌-◌, List, [], ◌∷◌, length, take, drop, Ok, Err, Result}
 use Rattle.markup.specs.Faults.{fault_ending}
-use Rattle.markup.specs.Grammar.{Tag, closes, opens}
+use Rattle.markup.specs.Grammar.{closes, opens}
 use Rattle.markup.specs.Parts.{from}
 use Rattle.markup.specs.Reading.{Reading, finish, giving, in_text}
 use Rattle.markup.specs.declared.fault.ReaderFault.{ReaderFault}

@@ -1,5 +1,5 @@
 -- Printed lines, each ended by a line feed.
-use Rattle.std.specs.Prelude.{ℕ, List, [], ◌∷◌, ◌++◌, codes, decimal}
+use Rattle.std.specs.Prelude.{ℕ, List, ◌++◌, codes, decimal}
 
 -- a label and a number
 abbrev pub fact_line : List ℕ → ℕ → List ℕ

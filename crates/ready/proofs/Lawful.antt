@@ -1,5 +1,5 @@
 -- The laws of every lawful book, from the table that it has. Assumes nothing.
-use Rattle.std.proofs.Common.{◌≡◌, ℕ, ◌<◌, Bool, true, false, sym, refl}
+use Rattle.std.proofs.Common.{◌≡◌, ◌<◌, Bool, true, false, sym, refl}
 use Rattle.book.specs.Machines.{Machine, Lawful, selecting}
 use Rattle.book.specs.Tables.{Fits}
 use Rattle.book.proofs.Tables.{tables_decide_item, tables_decide_acceptance}

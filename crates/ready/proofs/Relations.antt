@@ -1,12 +1,12 @@
 -- What a search for pairs has found: at first, with one pair more, and where every question has been asked.
 -- Assumes nothing.
-use Rattle.std.proofs.Common.{◌≡◌, ℕ, ◌<◌, Bool, true, false, cond, ◌&&◌, ◌||◌, eqb, ltb, ◌⊎◌, ◌↔◌, sym, refl, ap, ◌∙◌, subst, inl, inr, arith}
+use Rattle.std.proofs.Common.{◌≡◌, ℕ, ◌<◌, true, cond, ◌&&◌, eqb, ltb, ◌⊎◌, sym, refl, ◌∙◌, subst, inl, inr, arith}
 use Rattle.std.proofs.lemmas.Bool.{cases_Bool, or_cases, or_left, or_right, and_parts, and_from, lt-ltb, ltb-true, eqb-true, eq-eqb, cond-true, cond-false}
 use Rattle.book.specs.Limits.{tags}
 use Rattle.book.specs.Machines.{Machine, Lawful}
 use Rattle.book.specs.Rows.{Forest, none, item, tagged, through, Reach}
 use Rattle.ready.specs.Pairs.{Rel, joined, Covering}
-use Rattle.ready.specs.Rounds.{RowsLead, Grown, Found, Answers, FreshAnswers, Answered}
+use Rattle.ready.specs.Rounds.{RowsLead, Grown, Found, FreshAnswers, Answered}
 use Rattle.book.specs.Tables.{Fits}
 use Rattle.book.proofs.Rows.{reach_here, reach_then, reach_item}
 use Rattle.book.proofs.Ranges.{enter_below, back_below, through_below}

@@ -1,9 +1,9 @@
 -- The pairs of a table, as its rows are written. Assumes nothing.
-use Rattle.std.proofs.Common.{◌≡◌, ℕ, zero, suc, ◌+◌, ◌<◌, ◌≤◌, Bool, true, false, ◌&&◌, ◌||◌, eqb, ltb, ◌≢◌, ◌⊎◌, List, [], ◌∷◌, length, get_or, set, replicate, sym, refl, ap, ◌∙◌, subst, ap₂, inl, inr, arith, get_or-set_other, get_or-set_same}
+use Rattle.std.proofs.Common.{◌≡◌, ℕ, ◌+◌, ◌<◌, ◌≤◌, Bool, true, false, ◌&&◌, ◌||◌, ltb, ◌≢◌, List, [], length, get_or, set, replicate, sym, refl, ap, ◌∙◌, subst, inl, inr, arith, get_or-set_other, get_or-set_same}
 use lib.ListN.{length-replicate, get_or-replicate, get_or-eq_default}
 use Rattle.std.proofs.lemmas.Bool.{cases_eq, cases_lt, lt-ltb, le-ltb}
 use Rattle.ready.specs.declared.state_set.StateSet.{StateSet}
-use Rattle.ready.specs.Sets.{bit, has}
+use Rattle.ready.specs.Sets.{has}
 use Rattle.ready.specs.Pairs.{lies, nothing}
 use Rattle.ready.proofs.BitLaws.{has_zeros, or_none}
 

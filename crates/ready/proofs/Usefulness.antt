@@ -1,12 +1,11 @@
 -- Useful states: those from which some way on is accepted, inside some items. Assumes nothing.
-use Rattle.std.proofs.Common.{◌≡◌, ℕ, ◌<◌, Bool, true, false, ◌⊎◌, List, [], ◌∷◌, inl, inr}
-use Rattle.book.specs.Limits.{tags}
+use Rattle.std.proofs.Common.{◌≡◌, ℕ, ◌<◌, Bool, true, List, [], ◌∷◌, inl, inr}
 use Rattle.book.specs.Machines.{Machine, Lawful}
 use Rattle.book.specs.Levels.{Possible}
 use Rattle.book.proofs.Ranges.{back_below, reach_below}
 use Rattle.ready.specs.Pairs.{Rel}
 use Rattle.ready.specs.Rounds.{RowsLead}
-use Rattle.ready.specs.Dead.{Around, Useful, Closes, Stops}
+use Rattle.ready.specs.Dead.{Around, Useful, Stops}
 use Rattle.ready.proofs.Relations.{positive}
 
 module _ (m : Machine) (r : Rel) (lead : RowsLead m r) (useful : ℕ → Bool) where

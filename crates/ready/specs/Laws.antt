@@ -1,6 +1,6 @@
 -- What a table that fits decides, said of one table; that every lawful book has one; and what follows for scans
 -- and watches.
-use Rattle.std.specs.Prelude.{◌≡◌, ℕ, ◌<◌, Bool, true, false, List, [], ◌∷◌, ◌++◌, map, Result}
+use Rattle.std.specs.Prelude.{◌≡◌, ℕ, ◌<◌, true, false, List, [], ◌∷◌, ◌++◌, map, Result}
 use Rattle.book.specs.declared.event.Event.{Event}
 use Rattle.book.specs.Catalogue.{nest, within, Sound}
 use Rattle.book.specs.Machines.{Machine, Marks, Selecting, selecting, Lawful, LawfulMarks, run, plainly, marking, accepted}

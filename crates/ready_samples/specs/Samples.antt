@@ -1,5 +1,5 @@
 -- What a sample book means: its answers stand in lists, 32 tags to a state, and are kept within the width.
-use Rattle.std.specs.Prelude.{◌≡◌, ℕ, ◌+◌, ◌-◌, ◌*◌, ◌≤◌, min, Bool, true, false, cond, ◌&&◌, ◌⊎◌, List, nat_lt, slice_index, slice_index_or, refl}
+use Rattle.std.specs.Prelude.{ℕ, ◌+◌, ◌-◌, ◌*◌, ◌≤◌, min, Bool, false, cond, ◌&&◌, List, nat_lt, slice_index, slice_index_or}
 use Rattle.std.proofs.Common.{inl, inr, arith}
 use Rattle.std.proofs.lemmas.Bool.{and_left, and_right, le-ltb, cond-false, cond_both}
 use Rattle.book.specs.Limits.{tags, most_states}

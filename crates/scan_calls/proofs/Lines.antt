@@ -4,7 +4,7 @@ use Rattle.std.proofs.lemmas.Bool.{le-leb, lt-leb, eqb-true, not-false, both_way
 use Rattle.book.specs.declared.answer.Refusal.{Refusal}
 use Rattle.book.specs.declared.answer.Refusal.TheVariants.{BadTag, TooDeep, TooMany, HoldFull, NoneOpen, OtherTag, StillOpen}
 use Rattle.book.specs.Limits.{most_open}
-use Rattle.book.specs.Catalogue.{Nest, within, over}
+use Rattle.book.specs.Catalogue.{within}
 use Rattle.book.specs.Checks.{scan_lines}
 use Rattle.scan.specs.Tests.{is_over, is_bare, is_open, is_other, open_tags, checked}
 use Rattle.scan_calls.specs.Scans.{stack, place_of, first_lines}

@@ -8,10 +8,10 @@ use Rattle.book.specs.declared.event.Event.{Event}
 use Rattle.book.specs.declared.event.Event.TheVariants.{Open, Close, End}
 use Rattle.book.specs.declared.answer.Order.{Order}
 use Rattle.book.specs.Machines.{Machine}
-use Rattle.scan.specs.Tracks.{Level, Track, level, track, inside, entered, left, moved}
+use Rattle.scan.specs.Tracks.{Level, track, entered, left, moved}
 use Rattle.scan.specs.Model.{Holding, onward, is_due, is_held, note}
 use Rattle.cells.specs.declared.cell.Cell.{Cell}
-use Rattle.cells.specs.Cells.{Seen, seen, alone, cell_at, entered_seen, left_seen, beside_seen}
+use Rattle.cells.specs.Cells.{Seen, seen, cell_at, entered_seen, left_seen, beside_seen}
 use Rattle.scan_calls.specs.Rows.{Only, around, holding, held_in, base_view, held_view, holding_new, held_child, cell_due, cell_held, cell_note, Settled}
 
 -- Lists of cells --------------------------------------------------------------------------------------------------

@@ -1,5 +1,5 @@
 -- The loop of `find_fault` in src/lib.rt: what it keeps, and what falls with each turn.
-use Rattle.markup.specs.Reading.{Reading, reading}
+use Rattle.markup.specs.Reading.{reading}
 use Rattle.markup.specs.Tokens.{remaining}
 use Rattle.markup_host.proofs.find_fault.Given as goal
 use lib.ListN.{length}

@@ -1,4 +1,4 @@
-use Rattle.std.proofs.Common.{◌≡◌, ℕ, suc, ◌+◌, ◌-◌, eqb, List, ◌∷◌, Some, sym, ap, ◌∙◌, add-one, eq-eqb}
+use Rattle.std.proofs.Common.{ℕ, suc, ◌+◌, ◌-◌, eqb, List, Some, sym, ap, ◌∙◌, add-one, eq-eqb}
 use borrow.Author.Tests.{apart_eqb}
 use Rattle.std.proofs.lemmas.Bool.{cond-false, cond-true}
 use Rattle.book_file.specs.Names.{named, unpacked}

@@ -1,4 +1,4 @@
-use Rattle.std.proofs.Common.{◌≡◌, ◌<◌, ◌≤◌, true, false, ltb, get_or, sym, ap, ◌∙◌, arith, le-ltb, lt-ltb}
+use Rattle.std.proofs.Common.{◌<◌, ◌≤◌, ltb, get_or, sym, ◌∙◌, arith, le-ltb, lt-ltb}
 use Rattle.book_file.proofs.FirstOff.{off_start, off_passes, off_fails, off_ends}
 use Rattle.book_file.proofs.reading.first_not_below.Goals as goal
 

@@ -1,7 +1,6 @@
-use Rattle.std.proofs.Common.{◌≡◌, ◌+◌, ◌≤◌, length, drop, Ok, Err, sym, refl, ap, ◌∙◌, arith}
+use Rattle.std.proofs.Common.{◌+◌, ◌≤◌, length, drop, Ok, ap, ◌∙◌, arith}
 use Rattle.std.proofs.lemmas.Result.{err_from_is_err_and}
 use Rattle.book_file.specs.Files.{tables_at, tables_size}
-use Rattle.book_file.specs.Names.{unpacked}
 use Rattle.book_file.specs.Parts.{rows_of}
 use Rattle.book_file.proofs.FileRead.{file_read, names_fault}
 use Rattle.book_file.proofs.reading.read_parts.Goals as goal

@@ -1,4 +1,4 @@
-use Rattle.std.proofs.Common.{◌++◌, vec_items, codes, decimal}
+use Rattle.std.proofs.Common.{◌++◌, vec_items, codes}
 use Rattle.printing.proofs.Added.{added}
 use Rattle.book_report.specs.Lines.{accepting_states}
 use Rattle.book_report.specs.Reach.{or_none}

@@ -1,5 +1,5 @@
-use Rattle.std.proofs.Common.{◌≡◌, ℕ, suc, ◌+◌, ◌-◌, ◌++◌, vec_items, sym, ap, ◌∙◌, add-one, arith}
-use Rattle.book_file.specs.Names.{listed, name_of, spelt}
+use Rattle.std.proofs.Common.{◌≡◌, suc, ◌+◌, ◌-◌, ◌++◌, vec_items, sym, ap, ◌∙◌, add-one, arith}
+use Rattle.book_file.specs.Names.{listed, name_of}
 use Rattle.printing.proofs.Added.{added_more}
 use Rattle.book_report.specs.Lines.{name_line, name_lines}
 use Rattle.book_report.proofs.lines.add_names.Goals as goal

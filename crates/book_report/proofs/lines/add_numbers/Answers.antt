@@ -1,4 +1,4 @@
-use Rattle.std.proofs.Common.{◌++◌, vec_items, codes, decimal}
+use Rattle.std.proofs.Common.{◌++◌, vec_items, codes}
 use Rattle.printing.proofs.Added.{added}
 use Rattle.printing.specs.Lines.{fact_line}
 use Rattle.book_report.proofs.lines.add_numbers.Goals as goal

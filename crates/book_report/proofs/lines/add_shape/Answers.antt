@@ -1,4 +1,4 @@
-use Rattle.std.proofs.Common.{◌-◌, ◌++◌, vec_items, codes, decimal}
+use Rattle.std.proofs.Common.{◌-◌, ◌++◌, vec_items}
 use Rattle.printing.proofs.Added.{added}
 use Rattle.book_file.specs.Names.{listed}
 use Rattle.book_file.specs.Parts.{shape_tables}

@@ -1,4 +1,4 @@
-use Rattle.std.proofs.Common.{◌≡◌, suc, ◌+◌, ◌++◌, get_or, drop, vec_items, sym, ap, ◌∙◌, append-nil, add-one}
+use Rattle.std.proofs.Common.{suc, ◌+◌, ◌++◌, get_or, drop, vec_items, sym, ap, ◌∙◌, append-nil, add-one}
 use Rattle.std.proofs.lemmas.List.{at_drop_all, at_drop_more}
 use Rattle.printing.proofs.Added.{added_more}
 use Rattle.book_report.specs.Lines.{accepting_states, state_word}

@@ -1,4 +1,4 @@
-use Rattle.std.proofs.Common.{◌≡◌, ◌++◌, vec_items, ap, ◌∙◌}
+use Rattle.std.proofs.Common.{◌++◌, vec_items, ap, ◌∙◌}
 use Rattle.ready.specs.Pairs.{lies}
 use Rattle.ready.specs.Sets.{has}
 use Rattle.printing.proofs.Added.{added}

@@ -4,7 +4,6 @@ use Rattle.book_file.specs.Answering.{Answering}
 use Rattle.book_file.specs.Books.{tables_in}
 use Rattle.book_file.specs.Names.{listed}
 use Rattle.book_file.specs.Parts.{file_of, shape_tables}
-use Rattle.book_file.specs.declared.file.BookFile.{BookFile}
 use Rattle.book_report.specs.Lines.{file_lines, shape_lines}
 use Rattle.book_report.proofs.Described.{shown_at}
 use Rattle.book_report.proofs.report.add_file.Goals as goal

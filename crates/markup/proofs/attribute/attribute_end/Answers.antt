@@ -1,5 +1,5 @@
 -- What is left to show of `attribute_end` in src/attribute.rt.
-use Rattle.std.proofs.Common.{◌≡◌, ◌≤◌, get_or, sym, refl, ◌∙◌, arith}
+use Rattle.std.proofs.Common.{◌≤◌, get_or, sym, refl, ◌∙◌, arith}
 use Rattle.markup.proofs.Slices.{at_on, at_stop, begins_attribute, by_byte, cut_way, naming_attr, refuses_named, to_equals, way_after, way_from}
 use Rattle.markup.proofs.attribute.attribute_end.Goals as goal
 use Rattle.markup.specs.Reading.{attribute_named, equals, naming_attribute, spaced, valued}

@@ -1,5 +1,5 @@
 -- What is left to show of `quoted` in src/attribute.rt.
-use Rattle.std.proofs.Common.{◌≡◌, get_or, sym, refl, ap, ◌∙◌, arith}
+use Rattle.std.proofs.Common.{get_or, sym, refl, ap, ◌∙◌, arith}
 use Rattle.std.proofs.lemmas.Result.{err_from_is_err_and}
 use Rattle.markup.specs.Grammar.{plain}
 use Rattle.markup.specs.Reading.{value, in_content, valued}

@@ -1,5 +1,5 @@
 -- What is left to show of `class_of` in src/class.rt.
-use Rattle.std.proofs.Common.{ℕ, get_or, refl, arith}
+use Rattle.std.proofs.Common.{get_or, refl, arith}
 use Rattle.markup.proofs.Table.{class_table, each, same, same_is}
 use Rattle.markup.proofs.class.class_of.Goals as goal
 use Rattle.markup.specs.Classes.{has}

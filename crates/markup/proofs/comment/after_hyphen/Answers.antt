@@ -1,7 +1,7 @@
 -- What is left to show of `after_hyphen` in src/comment.rt.
-use Rattle.std.proofs.Common.{◌≡◌, ◌+◌, get_or, sym, refl, ap, ◌∙◌, add_assoc, arith}
+use Rattle.std.proofs.Common.{◌≡◌, ◌+◌, ap, ◌∙◌, arith}
 use Rattle.std.proofs.lemmas.Bool.Decides.{nat_tests}
-use Rattle.markup.specs.Reading.{one_hyphen, two_hyphens, in_comment, in_text, next, on}
+use Rattle.markup.specs.Reading.{one_hyphen, two_hyphens, in_comment, in_text}
 use Rattle.markup.specs.Parts.{from}
 use Rattle.markup.proofs.Slices.{at_on, at_stop, at_end}
 use Rattle.markup.proofs.comment.after_hyphen.Goals as goal

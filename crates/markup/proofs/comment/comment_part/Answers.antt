@@ -1,5 +1,5 @@
 -- What is left to show of `comment_part` in src/comment.rt.
-use Rattle.std.proofs.Common.{◌≡◌, ◌+◌, sym, ◌∙◌, arith}
+use Rattle.std.proofs.Common.{arith}
 use Rattle.std.proofs.lemmas.Bool.Decides.{nat_tests}
 use Rattle.markup.specs.Reading.{in_comment, one_hyphen}
 use Rattle.markup.proofs.Slices.{at_on, at_stop, comments_after}

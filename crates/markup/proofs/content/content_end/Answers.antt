@@ -1,9 +1,8 @@
 -- What is left to show of `content_end` in src/content.rt.
-use Rattle.std.proofs.Common.{◌≡◌, get_or, sym, refl, ap, ◌∙◌, arith}
+use Rattle.std.proofs.Common.{get_or, sym, ap, ◌∙◌, arith}
 use Rattle.std.proofs.lemmas.Result.{err_from_is_err_and}
-use Rattle.markup.specs.Grammar.{plain}
-use Rattle.markup.specs.Reading.{text, stop_of, ampersand, in_content, next}
-use Rattle.markup.proofs.Slices.{plain_on, at_on, at_stop, at_end}
+use Rattle.markup.specs.Reading.{text, ampersand, in_content, next}
+use Rattle.markup.proofs.Slices.{plain_on, at_on}
 use Rattle.markup.proofs.content.content_end.Goals as goal
 
 pub loop-i-preserved-then-is_plain : goal.loop-i-preserved-then-is_plain

@@ -1,5 +1,5 @@
 -- What is left to show of `next_piece` in src/piece.rt.
-use Rattle.std.proofs.Common.{◌≡◌, ℕ, ◌+◌, ◌-◌, ◌<◌, eqb, length, get_or, sym, refl, ap, ◌∙◌, arith}
+use Rattle.std.proofs.Common.{◌<◌, eqb, length, get_or, refl, ap, ◌∙◌, arith}
 use Rattle.std.proofs.lemmas.Bool.{cond-false, ne_eqb}
 use Rattle.markup.specs.Grammar.{plain}
 use Rattle.markup.specs.Reading.{text, in_text, angle, next}

@@ -4,7 +4,7 @@ use Rattle.markup.proofs.reference.after_ampersand.Goals as goal
 use Rattle.markup.specs.Reading.{ampersand, ampersand_a, awaiting, in_content}
 use Rattle.std.proofs.lemmas.Result.{err_from_is_err_and}
 use Rattle.std.proofs.lemmas.Bool.Decides.{nat_tests}
-use Rattle.std.proofs.Common.{◌≡◌, [], ◌∷◌, sym, refl, ap, arith}
+use Rattle.std.proofs.Common.{[], ◌∷◌, refl, arith}
 
 pub returns-in_err-b : goal.returns-in_err-b
 returns-in_err-b c =

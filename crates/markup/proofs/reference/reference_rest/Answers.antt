@@ -1,5 +1,5 @@
 -- What is left to show of `reference_rest` in src/reference.rt.
-use Rattle.std.proofs.Common.{◌≡◌, sym, ap, ◌∙◌, arith}
+use Rattle.std.proofs.Common.{◌∙◌, arith}
 use Rattle.markup.proofs.Slices.{awaited_on, awaited_stop, awaited_cut, awaited_done}
 use Rattle.markup.proofs.reference.reference_rest.Goals as goal
 

@@ -1,5 +1,5 @@
 -- The loop of `reference_rest` in src/reference.rt: what it keeps, and what falls with each turn.
-use Rattle.std.proofs.Common.{◌≡◌, ℕ, ◌≤◌, length, drop}
+use Rattle.std.proofs.Common.{◌≡◌, ◌≤◌, length, drop}
 use Rattle.markup.specs.Reading.{Where}
 use Rattle.markup.specs.Parts.{from, awaiting_all}
 use Rattle.markup.proofs.reference.reference_rest.Given as goal

@@ -1,10 +1,9 @@
 -- What is left to show of `collect_tags` in src/whole_text.rt.
 use Rattle.markup.proofs.Shown.{all_shown_more, gives_finish, gives_tag, giving_more, reads_given}
 use Rattle.markup.proofs.whole_text.collect_tags.Goals as goal
-use Rattle.markup.specs.Grammar.{Tag}
 use Rattle.markup.specs.declared.token.Token.{Token}
 use Rattle.markup.specs.Whole.{AllShown, Shows}
-use Rattle.std.proofs.Common.{◌≡◌, ℕ, List, [], ◌∷◌, ◌++◌, sym, ◌∙◌, subst}
+use Rattle.std.proofs.Common.{ℕ, List, [], ◌∷◌, ◌++◌, sym, ◌∙◌, subst}
 
 pub returns-in-Err : goal.returns-in-Err
 returns-in-Err c =

@@ -1,5 +1,5 @@
 -- What is left to show of `name_end` in src/words.rt.
-use Rattle.std.proofs.Common.{◌≡◌, ℕ, ◌+◌, ◌-◌, ◌≤◌, sym, ap, ◌∙◌, arith}
+use Rattle.std.proofs.Common.{◌≡◌, ◌+◌, ◌-◌, sym, ap, ◌∙◌, arith}
 use Rattle.std.proofs.lemmas.Bool.{leb-false, leb-true}
 use Rattle.markup.specs.Parts.{from}
 use Rattle.markup.proofs.Slices.{at_on, at_stop}

@@ -1,4 +1,4 @@
-use Rattle.std.proofs.Common.{arith, below_more}
+use Rattle.std.proofs.Common.{below_more}
 use Rattle.ready.proofs.rounds.ask_all.Goals as goal
 
 pub loop-outer-preserved : goal.loop-outer-preserved

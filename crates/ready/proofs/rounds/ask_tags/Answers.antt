@@ -1,5 +1,4 @@
-use Rattle.std.proofs.Common.{◌≡◌, ℕ, ◌+◌, ◌<◌, true, false, sym, ap, ◌∙◌, subst, arith, below_more}
-use Rattle.book.specs.Limits.{most_states, tags}
+use Rattle.std.proofs.Common.{ℕ, ◌+◌, ◌<◌, sym, ap, ◌∙◌, subst, below_more}
 use Rattle.std.proofs.lemmas.Bool.{both_ways}
 use Rattle.ready.specs.declared.table.Table.{Table}
 use Rattle.ready.specs.Pairs.{lies}

@@ -1,8 +1,8 @@
-use Rattle.std.proofs.Common.{◌≡◌, ℕ, ◌<◌, true, false, ◌&&◌, eqb, ltb, sym, ap, ◌∙◌, subst}
+use Rattle.std.proofs.Common.{ℕ, ◌&&◌, eqb, ltb, sym, ap, ◌∙◌, subst}
 use Rattle.std.proofs.lemmas.Bool.{both_ways}
 use Rattle.ready.specs.declared.table.Table.{Table}
 use Rattle.ready.specs.Pairs.{lies}
-use Rattle.ready.specs.Rounds.{Finding, Answered}
+use Rattle.ready.specs.Rounds.{Answered}
 use Rattle.ready.proofs.Counts.{lacks_lt}
 use Rattle.book.proofs.Ranges.{reach_below}
 use Rattle.ready.proofs.Relations.{positive, found_first, answered_more, answered_all, rows_lead}

@@ -1,4 +1,4 @@
-use Rattle.std.proofs.Common.{◌≡◌, ◌<◌, ◌≤◌, ◌≢◌, length, get_or, ap, ◌∙◌, arith, get_or-set_other, get_or-set_same, below_more}
+use Rattle.std.proofs.Common.{◌<◌, ◌≢◌, length, get_or, ap, ◌∙◌, arith, get_or-set_other, get_or-set_same, below_more}
 use lib.Bits.{bit_or}
 use Rattle.ready.proofs.BitLaws.{has_union, union_words}
 use Rattle.ready.proofs.words.add_members.Goals as goal

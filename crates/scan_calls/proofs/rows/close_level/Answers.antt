@@ -1,5 +1,4 @@
 use Rattle.std.proofs.Common.{◌≡◌, ℕ, ◌+◌, ◌<◌, ◌≤◌, Bool, ◌≢◌, List, [], length, get_or, set, ap, ◌∙◌, arith, get_or-set_other, get_or-set_same}
-use Rattle.book.specs.declared.answer.Order.{Order}
 use Rattle.book.specs.Machines.{Machine}
 use Rattle.levels.specs.Sets.{reach_of}
 use Rattle.cells.specs.declared.cell.Cell.{Cell}

@@ -1,9 +1,9 @@
-use Rattle.std.proofs.Common.{◌≡◌, ℕ, ◌+◌, ◌≤◌, Bool, true, false, List, [], ◌∷◌, length, get_or, take, filter, sym, ap, ◌∙◌, arith, length-append}
+use Rattle.std.proofs.Common.{ℕ, ◌+◌, Bool, List, [], ◌∷◌, length, take, filter, sym, ap, ◌∙◌, arith, length-append}
 use Rattle.std.proofs.lemmas.List.{take_all}
 use Rattle.book.specs.declared.event.Event.TheVariants.{Open}
 use Rattle.levels.specs.Sets.{reach_of}
 use Rattle.cells.specs.declared.cell.Cell.{Cell}
-use Rattle.cells.specs.Cells.{Seen, seen, alone, no_cell}
+use Rattle.cells.specs.Cells.{Seen, alone}
 use Rattle.scan.specs.Model.{is_held}
 use Rattle.scan_calls.specs.Rows.{held_child}
 use Rattle.scan_calls.proofs.Fills.{kept_yes, kept_no}

@@ -6,7 +6,7 @@ use Rattle.cells.specs.declared.cell.Cell.{Cell}
 use Rattle.cells.specs.Cells.{cell_at, seen}
 use Rattle.scan.specs.Tracks.{Level, track, marked}
 use Rattle.scan.specs.Model.{Holding, onward, is_held}
-use Rattle.scan_calls.specs.Rows.{around, base_view, held_view, holding_new, held_child}
+use Rattle.scan_calls.specs.Rows.{around, held_view, holding_new, held_child}
 use Rattle.scan_calls.proofs.Changed.{mid_taken}
 use Rattle.scan_calls.proofs.Views.{held_count}
 use Rattle.scan_calls.proofs.rows.held_inside.Goals as goal

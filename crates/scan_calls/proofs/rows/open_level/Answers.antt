@@ -1,12 +1,8 @@
-use Rattle.std.proofs.Common.{◌≡◌, ℕ, ◌+◌, ◌<◌, ◌≤◌, Bool, ◌≢◌, List, [], ◌∷◌, ◌++◌, map, length, get_or, set, ap, ◌∙◌, arith, get_or-set_same}
-use Rattle.book.specs.declared.event.Event.TheVariants.{Open}
+use Rattle.std.proofs.Common.{◌≡◌, ℕ, ◌+◌, ◌<◌, ◌≤◌, Bool, ◌≢◌, List, [], length, get_or, set, ap, ◌∙◌, arith, get_or-set_same}
 use Rattle.book.specs.Machines.{Machine}
 use Rattle.levels.specs.Sets.{reach_of}
 use Rattle.cells.specs.declared.cell.Cell.{Cell}
 use Rattle.cells.specs.Cells.{Seen, cell_at, seen, entered_seen, beside_seen}
-use Rattle.scan.specs.Tracks.{entered}
-use Rattle.scan.specs.Model.{onward}
-use Rattle.scan_calls.specs.Rows.{base_view, held_view, holding_new}
 use Rattle.scan_calls.proofs.Changed.{put_here, put_rest, put_only}
 use Rattle.scan_calls.proofs.Views.{opens}
 use Rattle.scan_calls.proofs.rows.open_level.Goals as goal

@@ -1,4 +1,4 @@
-use Rattle.std.proofs.Common.{◌≡◌, ◌+◌, ◌≤◌, true, false, length, take, filter, sym, ap, ◌∙◌, arith, length-take-le}
+use Rattle.std.proofs.Common.{◌≡◌, ◌+◌, ◌≤◌, true, false, length, filter, sym, ap, ◌∙◌, arith, length-take-le}
 use Rattle.cells.specs.Cells.{seen, alone}
 use Rattle.scan.specs.Tracks.{may}
 use Rattle.scan_calls.specs.Rows.{cell_due, cell_held}

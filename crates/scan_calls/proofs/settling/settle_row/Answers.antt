@@ -1,4 +1,4 @@
-use Rattle.std.proofs.Common.{◌≡◌, ℕ, ◌-◌, ◌≤◌, List, ◌++◌, map, length, take, drop, filter, ap, ◌∙◌, arith}
+use Rattle.std.proofs.Common.{◌-◌, ◌≤◌, List, ◌++◌, map, length, drop, filter, ap, ◌∙◌, arith}
 use Rattle.cells.specs.declared.cell.Cell.{Cell}
 use Rattle.scan_calls.specs.Rows.{cell_due, cell_held, cell_note}
 use Rattle.scan_calls.proofs.Changed.{mid_taken, mid_put, mid_first}

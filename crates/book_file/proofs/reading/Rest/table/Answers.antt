@@ -1,4 +1,4 @@
-use Rattle.std.proofs.Common.{◌≡◌, ℕ, ltb, List, Ok, sym, refl, ap, ◌∙◌}
+use Rattle.std.proofs.Common.{ℕ, ltb, List, sym, refl, ap, ◌∙◌}
 use Rattle.book.specs.declared.fault.BookFault.TheVariants.{TableEntry}
 use Rattle.book_file.specs.Files.{first_off, table_at}
 use Rattle.book_file.proofs.FirstOff.{none_all, unless_none}

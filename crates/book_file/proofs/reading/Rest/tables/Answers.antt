@@ -1,4 +1,4 @@
-use Rattle.std.proofs.Common.{◌≡◌, refl, ap, ◌∙◌, arith}
+use Rattle.std.proofs.Common.{◌∙◌, arith}
 use Rattle.book_file.proofs.TablesRead as read
 use Rattle.book_file.proofs.reading.Rest.tables.Goals as goal
 

@@ -1,4 +1,4 @@
-use Rattle.std.proofs.Common.{◌≡◌, ℕ, Bool, true, false}
+use Rattle.std.proofs.Common.{◌≡◌, ℕ, true, false}
 use Rattle.levels.specs.declared.sets.Sets.{Sets}
 use Rattle.levels.specs.Sets.{passes}
 use Rattle.levels.proofs.sets.Sets.empty.Goals as goal

@@ -1,4 +1,4 @@
-use Rattle.std.proofs.Common.{◌≡◌, ℕ, Bool, true, false, cond, ◌&&◌, sym, ap, ◌∙◌}
+use Rattle.std.proofs.Common.{◌≡◌, ℕ, Bool, true, false, cond, ◌&&◌}
 use Rattle.book.specs.Tables.{some_below}
 use Rattle.ready.specs.Sets.{has}
 use Rattle.levels.specs.Sets.{reach_of, passes}

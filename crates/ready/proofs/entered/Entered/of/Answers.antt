@@ -1,5 +1,5 @@
-use Rattle.std.proofs.Common.{◌≡◌, ℕ, ◌+◌, ◌*◌, ◌/◌, ◌%◌, ◌<◌, ◌≢◌, length, sym, ◌∙◌, ap₂, arith, length-set, get_or-set_other, get_or-set_same, below_more}
-use Rattle.book.specs.Limits.{most_states, tags}
+use Rattle.std.proofs.Common.{◌≡◌, ◌+◌, ◌*◌, ◌/◌, ◌%◌, ◌<◌, ◌≢◌, length, ◌∙◌, ap₂, arith, length-set, get_or-set_other, get_or-set_same, below_more}
+use Rattle.book.specs.Limits.{tags}
 use Rattle.ready.proofs.entered.Entered.of.Goals as goal
 
 pub loop-place-preserved : goal.loop-place-preserved

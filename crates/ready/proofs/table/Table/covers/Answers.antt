@@ -1,4 +1,4 @@
-use Rattle.std.proofs.Common.{◌≡◌, ◌<◌, sym, ◌∙◌, arith, below_more}
+use Rattle.std.proofs.Common.{sym, ◌∙◌, arith, below_more}
 use Rattle.ready.proofs.RowLaws.{lies_is}
 use Rattle.ready.proofs.table.Table.covers.Goals as goal
 

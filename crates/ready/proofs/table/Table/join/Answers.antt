@@ -1,7 +1,6 @@
 use Rattle.ready.proofs.table.Table.join.Goals as goal
-use Rattle.std.proofs.Common.{◌≡◌, ℕ, ◌+◌, ◌<◌, ◌≤◌, Bool, true, false, ◌&&◌, ◌||◌, eqb, ltb, List, sym, ap, ◌∙◌, subst, ap₂, arith}
+use Rattle.std.proofs.Common.{◌≡◌, ℕ, ◌+◌, Bool, true, false, ◌&&◌, ◌||◌, ltb, List, sym, ap, ◌∙◌, subst, ap₂, arith}
 use Rattle.std.proofs.lemmas.Bool.{le-ltb}
-use Rattle.book.specs.Limits.{most_states}
 use Rattle.ready.specs.declared.state_set.StateSet.{StateSet}
 use Rattle.ready.specs.declared.table.Table.{Table}
 use Rattle.ready.specs.Pairs.{lies}

@@ -1,12 +1,11 @@
-use Rattle.std.proofs.Common.{◌≡◌, ℕ, ◌-◌, ◌<◌, ◌≤◌, Bool, true, false, not, eqb, ltb, leb, length, get_or, Ok, Err, sym, refl, ap, ◌∙◌, arith}
+use Rattle.std.proofs.Common.{◌≡◌, ◌-◌, ◌≤◌, Bool, false, not, get_or, refl, ap, ◌∙◌, arith}
 use Rattle.std.proofs.lemmas.Result.{err_from_is_err_and}
-use Rattle.std.proofs.lemmas.Bool.{ne_eqb, eq-eqb, le-leb, lt-leb}
+use Rattle.std.proofs.lemmas.Bool.{ne_eqb, eq-eqb}
 use Rattle.book.specs.declared.answer.Refusal.{Refusal}
-use Rattle.book.specs.declared.event.Event.TheVariants.{Open, Close, End}
-use Rattle.book.specs.Limits.{tags, most_open, most_items}
+use Rattle.book.specs.declared.event.Event.TheVariants.{Close}
 use Rattle.book.specs.Machines.{selecting, Selecting}
 use Rattle.scan.specs.Model.{test}
-use Rattle.scan_calls.specs.Scans.{stack, model_of, table_of, first_lines}
+use Rattle.scan_calls.specs.Scans.{model_of, table_of, first_lines}
 use Rattle.scan_calls.proofs.Lines.{hit, pass, clear, after_first, at_first, going, bare_yes, bare_no, other_is}
 use Rattle.scan_calls.proofs.scanning.Scan.check_close.Goals as goal
 

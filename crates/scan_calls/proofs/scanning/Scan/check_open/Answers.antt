@@ -1,4 +1,4 @@
-use Rattle.std.proofs.Common.{◌≡◌, ℕ, ◌<◌, ◌≤◌, Bool, true, false, not, ltb, leb, length, sym, refl, ap, ◌∙◌, arith}
+use Rattle.std.proofs.Common.{◌≡◌, ℕ, ◌<◌, ◌≤◌, Bool, false, leb, sym, refl, arith}
 use Rattle.std.proofs.lemmas.Result.{err_from_is_err_and}
 use Rattle.std.proofs.lemmas.Bool.{le-leb, lt-leb}
 use Rattle.book.specs.declared.answer.Refusal.{Refusal}
@@ -6,7 +6,7 @@ use Rattle.book.specs.declared.event.Event.TheVariants.{Open}
 use Rattle.book.specs.Limits.{tags, most_open, most_items}
 use Rattle.book.specs.Machines.{selecting, Selecting}
 use Rattle.scan.specs.Model.{test}
-use Rattle.scan_calls.specs.Scans.{stack, model_of, table_of, first_lines}
+use Rattle.scan_calls.specs.Scans.{model_of, table_of, first_lines}
 use Rattle.scan_calls.proofs.Lines.{hit, pass, clear, after_first, at_first, going, deep_yes, deep_no}
 use Rattle.scan_calls.proofs.scanning.Scan.check_open.Goals as goal
 

@@ -1,9 +1,8 @@
-use Rattle.std.proofs.Common.{◌≡◌, ℕ, suc, ◌+◌, ◌-◌, ◌<◌, ◌≤◌, Bool, true, false, cond, List, ◌∷◌, ◌++◌, map, length, get_or, sym, refl, ap, ◌∙◌, append-nil, arith}
+use Rattle.std.proofs.Common.{◌≡◌, ℕ, suc, ◌+◌, Bool, false, List, map, length, sym, refl, ap, ◌∙◌, append-nil, arith}
 use Rattle.std.proofs.lemmas.Result.{err_from_is_err_and}
 use Rattle.book.specs.declared.event.Event.TheVariants.{End}
 use Rattle.book.specs.declared.answer.Order.{Order}
 use Rattle.book.specs.declared.answer.Refusal.{Refusal}
-use Rattle.book.specs.declared.answer.Totals.{Totals}
 use Rattle.book.specs.Checks.{scan_lines}
 use Rattle.book.specs.Machines.{Selecting, selecting}
 use Rattle.scan.specs.Model.{Holding, Model, test, onward, pending, totals, due_at, next}

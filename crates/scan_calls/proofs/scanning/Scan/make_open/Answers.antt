@@ -1,16 +1,15 @@
-use Rattle.std.proofs.Common.{◌≡◌, ℕ, suc, ◌+◌, ◌-◌, ◌<◌, ◌≤◌, Bool, true, false, cond, List, [], ◌∷◌, ◌++◌, map, length, get_or, set, sym, refl, ap, ◌∙◌, append-nil, arith, get_or-set_same}
+use Rattle.std.proofs.Common.{◌≡◌, ℕ, suc, ◌+◌, ◌<◌, ◌≤◌, Bool, false, cond, List, [], ◌∷◌, ◌++◌, map, length, set, sym, refl, ap, ◌∙◌, arith, get_or-set_same}
 use Rattle.std.proofs.lemmas.Result.{err_from_is_err_and}
 use Rattle.book.specs.declared.event.Event.TheVariants.{Open}
 use Rattle.book.specs.declared.answer.Order.{Order}
 use Rattle.book.specs.declared.answer.Refusal.{Refusal}
-use Rattle.book.specs.declared.answer.Totals.{Totals}
 use Rattle.book.specs.Checks.{scan_lines}
 use Rattle.book.specs.Machines.{Selecting, selecting}
 use Rattle.scan.specs.Model.{Holding, Model, test, onward, pending, totals, due_at, next}
 use Rattle.scan_calls.specs.Scans.{stack, place_of, model_of, table_of}
 use Rattle.scan_calls.specs.Rows.{base_view, held_view, holding_new}
 use Rattle.book.specs.Limits.{tags}
-use Rattle.book.specs.Catalogue.{within, over, broken, after}
+use Rattle.book.specs.Catalogue.{within, broken, after}
 use Rattle.scan.specs.Tracks.{moved, marked}
 use Rattle.std.proofs.lemmas.Bool.{leb-false, lt-ltb}
 use Rattle.scan_calls.proofs.Lines.{clear, going, stack_set, err_is, apart}
