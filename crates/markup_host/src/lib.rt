@@ -1,4 +1,4 @@
-// The reader for host programs in C: how the reading of a text ends, and how many tags it gives.
+// The reader for host programs: how the reading of a text ends, and how many tags it gives.
 #![tactic(auto)]
 
 ghost use Rattle.markup.specs.Reading.{reading};
@@ -9,8 +9,7 @@ ghost use Rattle.std.specs.Prelude.{length, ◌≡◌};
 use markup::{Reader, ReaderFault, Token};
 
 // The number of the text's fault, or 0 for a right text.
-#[unsafe(no_mangle)]
-pub extern "C" fn markup_number(text: &[u8]) -> u32
+pub fn markup_number(text: &[u8]) -> u32
     ensures { result ≡ ending_number (reading text.now).ended }
 {
     match find_fault(text) {
@@ -20,8 +19,7 @@ pub extern "C" fn markup_number(text: &[u8]) -> u32
 }
 
 // The place of the text's fault, or 0 for a right text.
-#[unsafe(no_mangle)]
-pub extern "C" fn markup_place(text: &[u8]) -> usize
+pub fn markup_place(text: &[u8]) -> usize
     ensures { result ≡ ending_place (reading text.now).ended }
 {
     match find_fault(text) {
@@ -31,8 +29,7 @@ pub extern "C" fn markup_place(text: &[u8]) -> usize
 }
 
 // How many tags the text gives before its end or its fault, or the greatest number where there were more.
-#[unsafe(no_mangle)]
-pub extern "C" fn markup_tags(text: &[u8]) -> u64
+pub fn markup_tags(text: &[u8]) -> u64
     ensures { result ≡ capped (length (reading text.now).given) }
 {
     count_tags(text)
