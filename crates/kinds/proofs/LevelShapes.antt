@@ -1,6 +1,6 @@
 -- The law of the level shape.
 use Rattle.std.proofs.Common.{◌≡◌, ℕ, suc, ◌+◌, ◌<◌, ◌≤◌, Bool, true, false, cond, eqb, ltb, leb, List, [], ◌∷◌, reverse, length, Decides, sym, refl, ◌∙◌, subst, inl, inr, add-one, arith}
-use Rattle.std.specs.List.{AllByRecursion as All}
+use Rattle.std.specs.List.{AllByRecursion}
 use Rattle.std.proofs.lemmas.List.{length-reverse}
 use Rattle.std.proofs.lemmas.Bool.Decides.{Decides-like}
 use Rattle.std.proofs.lemmas.Bool.{cases_lt, ltb-true, lt-ltb, le-ltb, le-leb, lt-leb, eqb-true, eqb-false, ne_eqb, eq-eqb, both_ways, cond_both}
@@ -36,7 +36,7 @@ module _ (d : ℕ) where
   depths [] = []
   depths (t ∷ ts) = length ts ∷ depths ts
 
-  depths_below : (ts : List ℕ) → length ts ≤ d → All (λ q. q < d + 2) (depths ts)
+  depths_below : (ts : List ℕ) → length ts ≤ d → AllByRecursion (λ q. q < d + 2) (depths ts)
   depths_below [] h = tt
   depths_below (t ∷ ts) h = (omega arith, depths_below ts (omega arith))
 
@@ -67,7 +67,7 @@ module _ (d : ℕ) where
       let k : length (reverse (t ∷ ts)) ≤ d = subst (λ (b : Bool). length (cond b (reverse (t ∷ ts)) (tags_to_from (t ∷ ts) (suc n) (suc n) c)) ≤ d) e (h (suc n) (omega arith) (count_grows c (suc n))) in
       omega arith
 
-  level_from : (c : List Event) (ts : List ℕ) (n : ℕ) → length ts ≤ d → All (λ t. t < tags) ts → follow after (within ts) c ≡ over
+  level_from : (c : List Event) (ts : List ℕ) (n : ℕ) → length ts ≤ d → AllByRecursion (λ t. t < tags) ts → follow after (within ts) c ≡ over
       → Decides (leb (ends (length ts) (depths ts) n c) d) (Shallow ts n c)
   level_from [] ts n low all h = absurd (within_not_over ts h)
   level_from (Open t ∷ c) ts n low all h =

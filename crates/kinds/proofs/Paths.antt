@@ -2,7 +2,7 @@
 use Rattle.std.proofs.Common.{◌≡◌, ℕ, zero, suc, ◌+◌, ◌-◌, ◌*◌, ◌/◌, ◌%◌, ◌^◌, ◌<◌, ◌≤◌, Bool, true, false, cond, ◌&&◌, ◌||◌, eqb, ltb, leb, ◌⊎◌, List, [], ◌∷◌, reverse, length, drop, Decides, sym, refl, ap, ◌∙◌, subst, inl, inr, add-zero, pow-suc, arith, drop-cons, pow_pos}
 use mathlib.Core.List.{reverse_aux}
 use native.Mathlib.Nat.{div-eq_of_lt, add-mul-div_right}
-use Rattle.std.specs.List.{AllByRecursion as All}
+use Rattle.std.specs.List.{AllByRecursion}
 use Rattle.std.proofs.lemmas.Nat.{pow-add, pow_below}
 use Rattle.std.proofs.lemmas.List.{drop_all}
 use Rattle.std.proofs.lemmas.Bool.Decides.{Decides-at}
@@ -219,7 +219,7 @@ module _ (steps : List PathStep) (some : 1 ≤ length steps) where
   asides [] = []
   asides (t ∷ ts) = inside ts ∷ asides ts
 
-  asides_below : (ts : List ℕ) → All (λ q. q < 2 ^ length steps + 2) (asides ts)
+  asides_below : (ts : List ℕ) → AllByRecursion (λ q. q < 2 ^ length steps + 2) (asides ts)
   asides_below [] = tt
   asides_below (t ∷ ts) = (let h : inside ts < 2 ^ length steps = inside_below ts in omega arith, asides_below ts)
 
@@ -229,7 +229,7 @@ module _ (steps : List PathStep) (some : 1 ≤ length steps) where
     ends q ss n c = (follow (step (path_machine steps) (marking (selecting (path_machine steps) (path_marks steps)) i)) (stand q ss n) c).state
 
     -- from hit or miss the run does not come away
-    ends_stays : (z : ℕ) (ss ts : List ℕ) (c : List Event) → 2 ^ length steps ≤ z → z < 2 ^ length steps + 2 → All (λ q. q < 2 ^ length steps + 2) ss → All (λ t. t < tags) ts
+    ends_stays : (z : ℕ) (ss ts : List ℕ) (c : List Event) → 2 ^ length steps ≤ z → z < 2 ^ length steps + 2 → AllByRecursion (λ q. q < 2 ^ length steps + 2) ss → AllByRecursion (λ t. t < tags) ts
         → follow after (within ts) c ≡ over → ends z ss i c ≡ z
     ends_stays z ss ts c low high below small h =
         stays (path_machine steps) (marking (selecting (path_machine steps) (path_marks steps)) i) z i high
@@ -238,7 +238,7 @@ module _ (steps : List PathStep) (some : 1 ≤ length steps) where
         c (stand z ss i) ts refl (omega arith) below small h
 
     -- item i opens
-    marked : (t : ℕ) (ts : List ℕ) (c : List Event) → t < tags → All (λ u. u < tags) ts → follow after (within (t ∷ ts)) c ≡ over
+    marked : (t : ℕ) (ts : List ℕ) (c : List Event) → t < tags → AllByRecursion (λ u. u < tags) ts → follow after (within (t ∷ ts)) c ≡ over
         → Decides (eqb (ends (path_marks steps (inside ts) t) (inside ts ∷ asides ts) i c) (hit (length steps))) (Fits steps (reverse (t ∷ ts)))
     marked t ts c ht small h =
         Decides-at _ (matches steps (inside ts) t)
@@ -254,7 +254,7 @@ module _ (steps : List PathStep) (some : 1 ≤ length steps) where
             ends_stays (miss (length steps)) (inside ts ∷ asides ts) (t ∷ ts) c (omega arith) (omega arith) (asides_below (t ∷ ts)) (ht, small) h in
             ne_eqb (ends (miss (length steps)) (inside ts ∷ asides ts) i c) (hit (length steps)) (λ f. omega arith)
 
-    path_from : (c : List Event) (ts : List ℕ) (n : ℕ) → n < i → i ≤ follow count n c → All (λ t. t < tags) ts → follow after (within ts) c ≡ over
+    path_from : (c : List Event) (ts : List ℕ) (n : ℕ) → n < i → i ≤ follow count n c → AllByRecursion (λ t. t < tags) ts → follow after (within ts) c ≡ over
         → Decides (eqb (ends (inside ts) (asides ts) n c) (hit (length steps))) (Fits steps (tags_to_from ts n i c))
     path_from [] ts n above most small h = absurd (within_not_over ts h)
     path_from (Open t ∷ c) ts n above most small h =

@@ -1,6 +1,6 @@
 -- Runs side by side: what every event keeps, a run keeps.
 use Rattle.std.proofs.Common.{◌≡◌, ℕ, suc, ◌-◌, ◌<◌, ◌≤◌, Bool, true, false, cond, eqb, ltb, List, [], ◌∷◌, sym, refl, ap, ◌∙◌, subst, arith}
-use Rattle.std.specs.List.{AllByRecursion as All}
+use Rattle.std.specs.List.{AllByRecursion}
 use Rattle.std.proofs.lemmas.Bool.{ltb-true, eqb-true, cond_both}
 use Rattle.book.specs.declared.event.Event.{Event}
 use Rattle.book.specs.declared.event.Event.TheVariants.{Open, Close, End}
@@ -67,11 +67,11 @@ module _ (m : Machine) (f : Entering) (z n : ℕ) (below : z < m.width)
     (back : (s t : ℕ) → s < m.width → t < tags → m.back s z t ≡ z) where
   -- the run stands in z, whatever the events came to
   Fixed : Stand → Nest → Type 0
-  Fixed s (within ts) = (s.state ≡ z) × (n ≤ s.items) × All (λ q. q < m.width) s.aside × All (λ t. t < tags) ts
+  Fixed s (within ts) = (s.state ≡ z) × (n ≤ s.items) × AllByRecursion (λ q. q < m.width) s.aside × AllByRecursion (λ t. t < tags) ts
   Fixed s over = s.state ≡ z
   Fixed s broken = Unit {0}
 
-  aside_below : (ss : List ℕ) → All (λ q. q < m.width) ss → (last ss < m.width) × All (λ q. q < m.width) (others ss)
+  aside_below : (ss : List ℕ) → AllByRecursion (λ q. q < m.width) ss → (last ss < m.width) × AllByRecursion (λ q. q < m.width) (others ss)
   aside_below [] h = (omega arith, tt)
   aside_below (s ∷ ss) h = (h.0, h.1)
 
@@ -107,7 +107,7 @@ module _ (m : Machine) (f : Entering) (z n : ℕ) (below : z < m.width)
   keep_fixed s broken e r = tt
 
   pub stays : (c : List Event) (s : Stand) (ts : List ℕ) → s.state ≡ z → n ≤ s.items
-      → All (λ q. q < m.width) s.aside → All (λ t. t < tags) ts → follow after (within ts) c ≡ over
+      → AllByRecursion (λ q. q < m.width) s.aside → AllByRecursion (λ t. t < tags) ts → follow after (within ts) c ≡ over
       → (follow (step m f) s c).state ≡ z
   unfolding Fixed
   stays c s ts a b d e h =

@@ -2,7 +2,7 @@
 #![tactic(auto)]
 
 ghost use Rattle.markup.specs.Reading.{reading};
-ghost use Rattle.markup.specs.Whole.{ending as Ending-of};
+ghost use Rattle.markup.specs.Whole.{ending as ending_of};
 ghost use Rattle.markup_host.specs.Endings.{capped, ending_number, ending_place};
 ghost use Rattle.std.specs.Prelude.{length, ◌≡◌};
 
@@ -36,7 +36,7 @@ pub fn markup_tags(text: &[u8]) -> u64
 }
 
 fn find_fault(text: &[u8]) -> Option<ReaderFault>
-    ensures { Ending-of result ≡ (reading text.now).ended }
+    ensures { ending_of result ≡ (reading text.now).ended }
 {
     let mut reader = Reader::new(text);
     'tags: loop {

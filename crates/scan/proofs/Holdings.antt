@@ -1,6 +1,6 @@
 -- Lists of holdings: their items, and those that pass a test. Assumes nothing.
 use Rattle.std.proofs.Common.{◌≡◌, ℕ, ◌≤◌, Bool, true, false, cond, ◌⊎◌, ◌↔◌, List, [], ◌∷◌, ◌++◌, map, length, filter, sym, refl, ap, subst, inl, inr, arith}
-use Rattle.std.specs.List.{AllByRecursion as All}
+use Rattle.std.specs.List.{AllByRecursion}
 use Rattle.std.proofs.ByRecursion.{All-weaker}
 use Rattle.std.proofs.lemmas.Bool.{both_ways}
 use Rattle.book.specs.declared.event.Event.{Event}
@@ -17,7 +17,7 @@ items_onward reach m e [] = refl
 items_onward reach m e (x ∷ xs) = ap (λ (r : List ℕ). x.item ∷ r) (items_onward reach m e xs)
 
 -- each holding is one of them
-pub all_listed : (P : Holding → Type 0) (xs : List Holding) → All P xs → All (λ x. In (item_in x) (map item_in xs) × P x) xs
+pub all_listed : (P : Holding → Type 0) (xs : List Holding) → AllByRecursion P xs → AllByRecursion (λ x. In (item_in x) (map item_in xs) × P x) xs
 all_listed P [] a = tt
 all_listed P (x ∷ xs) a = (
   (inl refl, a.0),
@@ -25,7 +25,7 @@ all_listed P (x ∷ xs) a = (
 )
 
 -- the items of those that pass a test, where the test tells what P says
-pub kept_in : (p : Holding → Bool) (P : ℕ → Type 0) (xs : List Holding) → All (λ x. (p x ≡ true) ↔ P x.item) xs → (i : ℕ) → In i (map item_in (filter p xs)) ↔ (In i (map item_in xs) × P i)
+pub kept_in : (p : Holding → Bool) (P : ℕ → Type 0) (xs : List Holding) → AllByRecursion (λ x. (p x ≡ true) ↔ P x.item) xs → (i : ℕ) → In i (map item_in (filter p xs)) ↔ (In i (map item_in xs) × P i)
 kept_in p P [] a i = (λ y. absurd y, λ y. absurd y.0)
 kept_in p P (x ∷ xs) a i = go (p x) refl (kept_in p P xs a.1 i)
   where
@@ -61,6 +61,6 @@ kept_rising p low (x ∷ xs) r = go (p x) (kept_rising p x.item xs r.1)
 -- Records ---------------------------------------------------------------------------------------------------------
 
 -- the records of orders at the last event
-pub notes_are : (now : List Event) (n : ℕ) (xs : List Holding) → n ≡ length now → All (λ x. x.since ≡ opening x.item now) xs → map (note n) xs ≡ map (order now) (map item_in xs)
+pub notes_are : (now : List Event) (n : ℕ) (xs : List Holding) → n ≡ length now → AllByRecursion (λ x. x.since ≡ opening x.item now) xs → map (note n) xs ≡ map (order now) (map item_in xs)
 notes_are now n [] q a = refl
 notes_are now n (x ∷ xs) q a = λ i. record { item = x.item; opened = a.0 i; ordered = q i } ∷ notes_are now n xs q a.1 i
