@@ -1,5 +1,5 @@
 -- Calls that are made one after the other, as the scan over lists makes them. Assumes nothing.
-use Rattle.std.proofs.Common.{◌≡◌, ℕ, suc, ◌+◌, ◌<◌, ◌≤◌, Bool, ◌≢◌, ◌⊎◌, List, [], ◌∷◌, ◌++◌, map, length, get_or, take, set, Some, vec_items, Result, sym, refl, ap, ◌∙◌, subst, inl, inr, arith, get_or-set_other, get_or-set_same}
+use Rattle.std.proofs.Common.{◌≡◌, ℕ, suc, ◌+◌, ◌<◌, ◌≤◌, Bool, ◌≢◌, ◌⊎◌, List, [], ◌∷◌, ◌++◌, map, length, get_or, take, set, Result, sym, refl, ap, ◌∙◌, subst, inl, inr, arith, get_or-set_other, get_or-set_same}
 use Rattle.std.proofs.lemmas.List.{take_more, get_or_default}
 use Rattle.std.proofs.lemmas.Bool.{cases_eq}
 use Rattle.book.specs.declared.event.Event.{Event}
@@ -8,13 +8,12 @@ use Rattle.book.specs.declared.answer.Totals.{Totals}
 use Rattle.book.specs.declared.answer.Refusal.{Refusal}
 use Rattle.book.specs.Machines.{Selecting, Lawful, LawfulMarks}
 use Rattle.book.specs.Tables.{Fits}
-use Rattle.book.specs.Promise.{Promise}
-use Rattle.book.specs.PromiseLaws.{Asked, asked}
-use Rattle.scan.specs.Model.{Model, begun, answer, list_after, model_after}
+use Rattle.book.specs.PromiseLaws.{Asked}
+use Rattle.scan.specs.Model.{Model, answer, list_after, model_after}
 use Rattle.scan.specs.Runs.{exchanges_from, scan_run}
 use Rattle.scan.proofs.Runs.{scan_runs_right}
 use Rattle.replay.specs.declared.exchange.Exchange.{Exchange}
-use Rattle.replay.specs.Replays.{asked_by, AllShow, Replayed, answered, onto, Made, standing}
+use Rattle.replay.specs.Replays.{asked_by, AllShow, Replayed, onto, Made, standing}
 
 -- One call --------------------------------------------------------------------------------------------------------
 

@@ -1,7 +1,5 @@
 -- Calls that were replayed: what they show, and what is promised of it.
 use Rattle.std.specs.Prelude.{◌≡◌, ℕ, Bool, List, [], ◌∷◌, map, length, Some, vec_items, Result}
-use Rattle.book.specs.declared.event.Event.{Event}
-use Rattle.book.specs.declared.answer.Order.{Order}
 use Rattle.book.specs.declared.answer.Totals.{Totals}
 use Rattle.book.specs.declared.answer.Refusal.{Refusal}
 use Rattle.book.specs.Machines.{Selecting}

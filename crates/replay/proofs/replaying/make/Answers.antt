@@ -1,4 +1,4 @@
-use Rattle.std.proofs.Common.{◌≡◌, ℕ, Bool, List, Some, vec_items, Option, Result, refl, ap, ◌∙◌}
+use Rattle.std.proofs.Common.{List, Some, vec_items, Option, Result, refl, ap, ◌∙◌}
 use Rattle.std.proofs.lemmas.List.{with_items_is}
 use Rattle.book.specs.declared.event.Event.{Event}
 use Rattle.book.specs.declared.answer.Order.{Order}

@@ -1,4 +1,4 @@
-use Rattle.std.proofs.Common.{◌≡◌, ℕ, ◌<◌, ◌≤◌, Bool, List, [], map, length, get_or, take, sym, refl, ap, ◌∙◌, subst, arith}
+use Rattle.std.proofs.Common.{◌≡◌, ℕ, ◌<◌, Bool, List, map, length, get_or, take, sym, refl, ap, ◌∙◌, subst, arith}
 use Rattle.ready.specs.declared.ready.Ready.{Ready}
 use Rattle.book.specs.Machines.{Selecting, selecting, LawfulMarks, Lawful}
 use Rattle.book.specs.Tables.{Fits}
@@ -6,7 +6,7 @@ use Rattle.levels.specs.Sets.{reach_of}
 use Rattle.scan_calls.specs.Scans.{model_of, table_of}
 use Rattle.scan.specs.Model.{Model, begun}
 use Rattle.replay.specs.declared.exchange.Exchange.{Exchange}
-use Rattle.replay.specs.Replays.{asked_by, standing, onto, Made}
+use Rattle.replay.specs.Replays.{asked_by, standing, onto, Made, Replayed}
 use Rattle.replay.proofs.CallByCall.{made_more, rest_more, model_more, all_shown, replayed}
 use Rattle.replay.proofs.replaying.replay_all.Goals as goal
 
@@ -27,9 +27,12 @@ loop-x-preserved g c =
     let y : Exchange = c.make.new.x in
     let at : Model = model_of now in
     let v = c.loop-x.invariant in
-    let made : Made reach m at x y = subst (λ (r : Ready g.row.B.Denot). Made (reach_of r) (meaning r) at x y) v.0 c.make.ensures.made in
+    let made : Made reach m at x y =
+    subst (λ (e : Exchange). Made reach m at e y) (sym c.x-item.is)
+    (subst (λ (r : Ready g.row.B.Denot). Made (reach_of r) (meaning r) at (get_or ys i x) y) v.0 c.make.ensures.made) in
     let new : model_of c.make.new.scan ≡ onto reach m at (asked_by x) =
-    subst (λ (r : Ready g.row.B.Denot). model_of c.make.new.scan ≡ onto (reach_of r) (meaning r) at (asked_by x)) v.0 c.make.ensures.model in
+    subst (λ (e : Exchange). model_of c.make.new.scan ≡ onto reach m at (asked_by e)) (sym c.x-item.is)
+    (subst (λ (r : Ready g.row.B.Denot). model_of c.make.new.scan ≡ onto (reach_of r) (meaning r) at (asked_by (get_or ys i x))) v.0 c.make.ensures.model) in
     let lt = c.loop-x-test.true in
     let long = c.loop-x.auto.exchanges in (
       c.make.ensures.same ∙ v.0,
@@ -44,11 +47,24 @@ returns g c =
     let book = c.args.book in
     let meaning : Ready g.row.B.Denot → Selecting = (λ r. selecting (g.B.ShapeBook.machine r.book) (g.B.SelectingBook.marks r.book)) in
     let ready = c.make_ready-ready.result in
-    let m : Selecting = selecting (g.B.ShapeBook.machine book) (g.B.SelectingBook.marks book) in
+    let m : Selecting = meaning ready in
     let reach : ℕ → ℕ → Bool = reach_of ready in
     let xs : List Exchange = c.args.exchanges.now in
     let ys : List Exchange = c.loop-x.exchanges in
+    let i : ℕ = c.loop-x.x-index in
     let v = c.loop-x.invariant in
-    let start : Model = begun reach m.shape in
-    let b : c.begin-scan.ensures.same ≡ c.begin-scan.ensures.same = refl in
-    ?
+    let begun_on : first.ready ≡ ready = c.begin-scan.ensures.same in
+    let is_book : ready.book ≡ book = c.make_ready-ready.ensures.book in
+    let long : length ys ≡ length xs = c.loop-x.auto.exchanges in
+    let all_made = subst (λ (s : Model). (k : ℕ) → k < i → (d : Exchange) → Made reach m (standing reach m s (map asked_by (take k xs))) (get_or xs k d) (get_or ys k d)) c.begin-scan.ensures.model
+    (subst (λ (r : Ready g.row.B.Denot). (k : ℕ) → k < i → (d : Exchange) →
+    Made (reach_of r) (meaning r) (standing (reach_of r) (meaning r) (model_of first) (map asked_by (take k xs))) (get_or xs k d) (get_or ys k d)) begun_on v.2) in
+    let law : Lawful m.shape = g.B.ShapeBook.lawful ready.book in
+    let marks : LawfulMarks m.shape m.mark = subst (λ (b : g.row.B.Denot). LawfulMarks (g.B.ShapeBook.machine b) (g.B.SelectingBook.marks b)) (sym is_book) c.marked.ensures in
+    let fits : Fits m.shape reach = subst (λ (b : g.row.B.Denot). Fits (g.B.ShapeBook.machine b) reach) (sym is_book) c.make_ready-ready.ensures.fits in
+    let ended = c.loop-x-test.false in
+    let shown = all_shown reach m (begun reach m.shape) xs ys long (λ k lt d. all_made k (omega arith) d) in
+    record {
+      same = c.hand_back-2.ensures ∙ ap (λ (r : Ready g.row.B.Denot). r.book) (c.hand_back.ensures ∙ v.0 ∙ begun_on) ∙ is_book;
+      promise = subst (λ (b : g.row.B.Denot). Replayed (selecting (g.B.ShapeBook.machine b) (g.B.SelectingBook.marks b)) xs ys) is_book (replayed reach m xs ys law marks fits shown);
+    }
