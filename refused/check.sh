@@ -5,8 +5,7 @@ set -u
 here=$(cd "$(dirname "$0")/.." && pwd)
 work=$(mktemp -d)
 trap 'rm -rf "$work"' EXIT
-cp -R "$here/crates.txt" "$here/crates" "$work/"
-[ ! -d "$here/target" ] || cp -R "$here/target" "$work/"
+(cd "$here" && tar cf - --exclude=out crates.txt crates) | (cd "$work" && tar xf -)
 bad=0
 for case in "$here"/refused/*.case; do
     name=${case##*/}
@@ -17,7 +16,7 @@ for case in "$here"/refused/*.case; do
         { i = index($0, ENVIRON["OLD"]); if (i) { $0 = substr($0, 1, i - 1) ENVIRON["NEW"] substr($0, i + length(ENVIRON["OLD"])); n++ } print }
         END { exit n != 1 }' "$here/crates/$crate/$file" >"$work/crates/$crate/$file"
     then
-        (cd "$work" && rt dev "$crate") >"$work/log" 2>&1
+        (cd "$work/crates/$crate" && rt check) >"$work/log" 2>&1
         if grep -q "$file:.*error\[$error\]" "$work/log"; then echo "$name: refused, $error"; else echo "$name: NOT REFUSED as $error"; tail -5 "$work/log"; bad=1; fi
     else
         echo "$name: BAD CASE, its text does not stand once in $crate/$file"
