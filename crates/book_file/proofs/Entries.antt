@@ -11,7 +11,7 @@ entry_in xs rows columns row place whole r c = let less = digits_lt {q = row} {m
 pub column_in : (columns t : ℕ) → 1 ≤ columns → column columns t < columns
 column_in columns t some = cond_both (ltb t columns) t 0 (λ x. x < columns) (λ e. ltb-true t columns e) (λ e. some)
 
-pub getD_less : (bound : ℕ) (xs : List ℕ) (i : ℕ) → below bound xs ≡ true → i < length xs → get_or xs i 0 < bound
-getD_less bound [] i h l = absurd (omega arith)
-getD_less bound (x ∷ xs) zero h l = ltb-true x bound (and_parts (ltb x bound) (below bound xs) h).0
-getD_less bound (x ∷ xs) (suc i) h l = let k : i < length xs = omega arith in getD_less bound xs i (and_parts (ltb x bound) (below bound xs) h).1 k
+pub get_or_less : (bound : ℕ) (xs : List ℕ) (i : ℕ) → below bound xs ≡ true → i < length xs → get_or xs i 0 < bound
+get_or_less bound [] i h l = absurd (omega arith)
+get_or_less bound (x ∷ xs) zero h l = ltb-true x bound (and_parts (ltb x bound) (below bound xs) h).0
+get_or_less bound (x ∷ xs) (suc i) h l = let k : i < length xs = omega arith in get_or_less bound xs i (and_parts (ltb x bound) (below bound xs) h).1 k

@@ -54,10 +54,10 @@ table_marks b mark s t = cond (nat_lt s b.states && nat_lt t tags) (entry mark b
 abbrev pub below : ℕ → List ℕ → Bool
 below bound xs = all (λ x. ltb x bound) xs
 
-pub getD_below : (bound : ℕ) (xs : List ℕ) (i : ℕ) → below bound xs ≡ true → slice_index xs i ≤ bound - 1
-getD_below bound [] i h = zero-le
-getD_below bound (x ∷ xs) zero h = let less = ltb-true x bound (and_parts (nat_lt x bound) (below bound xs) h).0 in omega arith
-getD_below bound (x ∷ xs) (suc i) h = getD_below bound xs i (and_parts (nat_lt x bound) (below bound xs) h).1
+pub slice_index_below : (bound : ℕ) (xs : List ℕ) (i : ℕ) → below bound xs ≡ true → slice_index xs i ≤ bound - 1
+slice_index_below bound [] i h = zero-le
+slice_index_below bound (x ∷ xs) zero h = let less = ltb-true x bound (and_parts (nat_lt x bound) (below bound xs) h).0 in omega arith
+slice_index_below bound (x ∷ xs) (suc i) h = slice_index_below bound xs i (and_parts (nat_lt x bound) (below bound xs) h).1
 
 cond_within : (b : Bool) (n bound : ℕ) → n ≤ bound → cond b n 0 ≤ bound
 cond_within true n bound h = h
@@ -72,8 +72,8 @@ table_lawful b narrow starts enters sides =
     record {
       narrow = narrow;
       starts = starts;
-      enters = λ s t. cond_within (nat_lt s b.states && nat_lt t tags) _ (b.states - 1) (getD_below b.states b.enter (s * b.columns + column b.columns t) enters);
-      backs = λ s q t. cond_within (nat_lt s b.states && (nat_lt q b.states && nat_lt t tags)) _ (b.states - 1) (getD_below b.states b.side (s * b.trees + entry b.up b.columns q (column b.columns t)) sides);
+      enters = λ s t. cond_within (nat_lt s b.states && nat_lt t tags) _ (b.states - 1) (slice_index_below b.states b.enter (s * b.columns + column b.columns t) enters);
+      backs = λ s q t. cond_within (nat_lt s b.states && (nat_lt q b.states && nat_lt t tags)) _ (b.states - 1) (slice_index_below b.states b.side (s * b.trees + entry b.up b.columns q (column b.columns t)) sides);
       no_enter = λ s t out. cond-false (nat_lt s b.states && nat_lt t tags) _ 0 (asked_out b.states s t out);
       no_back = λ s q t out. cond-false (nat_lt s b.states && (nat_lt q b.states && nat_lt t tags)) _ 0
           (⊎_elim (λ p. and_left (nat_lt s b.states) (nat_lt q b.states && nat_lt t tags) (le-ltb s b.states p)) (λ p. and_right (nat_lt s b.states) (nat_lt q b.states && nat_lt t tags) (asked_out b.states q t p)) out);
@@ -83,7 +83,7 @@ table_lawful b narrow starts enters sides =
 pub table_marked : (b : Table) (mark : List ℕ) → below b.states mark ≡ true → LawfulMarks (table_machine b) (table_marks b mark)
 table_marked b mark marks =
     record {
-      marks = λ s t. cond_within (nat_lt s b.states && nat_lt t tags) _ (b.states - 1) (getD_below b.states mark (s * b.columns + column b.columns t) marks);
+      marks = λ s t. cond_within (nat_lt s b.states && nat_lt t tags) _ (b.states - 1) (slice_index_below b.states mark (s * b.columns + column b.columns t) marks);
       no_mark = λ s t out. cond-false (nat_lt s b.states && nat_lt t tags) _ 0 (asked_out b.states s t out);
     }
 
