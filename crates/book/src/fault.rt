@@ -49,16 +49,14 @@ impl BookFault {
         ensures { result ≡ fault_place self }
     {
         match self {
-            BookFault::ShortHeader { length } => Some(length),
+            BookFault::ShortHeader { length } | BookFault::CutOff { length } => Some(length),
             BookFault::Letters => Some(0),
             BookFault::Version => Some(3),
-            BookFault::HeaderNumber { at } => Some(at),
-            BookFault::CutOff { length } => Some(length),
-            BookFault::ExtraByte { at } => Some(at),
-            BookFault::TableEntry { at } => Some(at),
-            BookFault::NameByte { at } => Some(at),
-            BookFault::PathSteps => None,
-            BookFault::LevelDepth => None,
+            BookFault::HeaderNumber { at }
+            | BookFault::ExtraByte { at }
+            | BookFault::TableEntry { at }
+            | BookFault::NameByte { at } => Some(at),
+            BookFault::PathSteps | BookFault::LevelDepth => None,
         }
     }
 }
