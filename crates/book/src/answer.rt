@@ -1,6 +1,9 @@
 // What the calls of a scan and of a watch answer.
-ghost use Rattle.std.specs.Prelude.{◌≡◌};
-ghost use Rattle.book.specs.Refusals.{number};
+ghost use Rattle.std.specs.Prelude.{◌≡◌, Some};
+ghost use Rattle.book.specs.Refusals.{number, refusal_text};
+
+use std::error::Error;
+use std::fmt;
 
 // One order: the item, the event that opened it, and the event at which it is ordered.
 #[derive(Clone, Copy, Debug, PartialEq, Eq)]
@@ -60,3 +63,13 @@ impl Refusal {
         self as u32
     }
 }
+
+impl fmt::Display for Refusal {
+    ghost output = { λ refusal. Some (refusal_text refusal) };
+
+    fn fmt<W: fmt::Write>(&self, f: &mut fmt::Formatter<W>) -> fmt::Result {
+        write!(f, "refused {}", self.number())
+    }
+}
+
+impl Error for Refusal {}

@@ -1,6 +1,9 @@
 // Why a book is refused, as a file or as it is made.
-ghost use Rattle.std.specs.Prelude.{◌≡◌};
-ghost use Rattle.book.specs.Faults.{fault_number, fault_place};
+ghost use Rattle.std.specs.Prelude.{◌≡◌, Some};
+ghost use Rattle.book.specs.Faults.{fault_number, fault_place, fault_text};
+
+use std::error::Error;
+use std::fmt;
 
 #[derive(Clone, Copy, Debug, PartialEq, Eq)]
 pub enum BookFault {
@@ -60,3 +63,17 @@ impl BookFault {
         }
     }
 }
+
+impl fmt::Display for BookFault {
+    ghost output = { λ fault. Some (fault_text fault) };
+
+    fn fmt<W: fmt::Write>(&self, f: &mut fmt::Formatter<W>) -> fmt::Result {
+        let number = self.number();
+        match self.place() {
+            Some(at) => write!(f, "refused {number} at {at}"),
+            None => write!(f, "refused {number}"),
+        }
+    }
+}
+
+impl Error for BookFault {}
