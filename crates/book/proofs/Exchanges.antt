@@ -9,7 +9,7 @@ map_append f [] ys = refl
 map_append f (x ∷ xs) ys = ap (λ (r : List _). f x ∷ r) (map_append f xs ys)
 
 pub cons_not_nil : {A : Type 0} (x : A) (xs : List A) → x ∷ xs ≡ [] → ⊥
-cons_not_nil x xs e = let z : ◌≡◌ {A = ℕ} 0 1 = cc in omega arith
+cons_not_nil x xs e = cc
 
 -- where an element stands in a list with one more at its end: there, or before it
 pub split_last : {A : Type 0} (xs ys zs : List A) (x y : A) → xs ++ (x ∷ []) ≡ ys ++ (y ∷ zs)

@@ -80,7 +80,7 @@ orders_are_the_due m xs h p at =
 -- Answers and checks ----------------------------------------------------------------------------------------------
 
 ok_not_err : (a : Totals) (r : Refusal) (x : Result Totals Refusal) → x ≡ Ok a → x ≡ Err r → ⊥
-ok_not_err a r x p q = let z : ◌≡◌ {A = ℕ} 0 1 = cc in omega arith
+ok_not_err a r x p q = cc
 
 err_same : (r s : Refusal) (x : Result Totals Refusal) → x ≡ Err r → x ≡ Err s → r ≡ s
 err_same r s x p q = cc

@@ -42,7 +42,7 @@ is_over h = go (nest h)
     go : (n : Nest) → Either (n ≡ over)
     go (within ts) = inr (within_not_over ts)
     go over = inl refl
-    go broken = inr (λ e. let z : ◌≡◌ {A = ℕ} 0 1 = cc in omega arith)
+    go broken = inr (λ e. cc)
 
 pub open_items : (h : List Event) → Sound h → (nest h ≡ over → ⊥) → (ts : List ℕ) × (nest h ≡ within ts)
 open_items h s not_over = go (nest h) refl

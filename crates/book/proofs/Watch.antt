@@ -97,7 +97,7 @@ one_watch_run m xs ys k l e =
 -- Answers and checks ----------------------------------------------------------------------------------------------
 
 ok_not_err : (v : Verdict) (r : Refusal) (x : Result Verdict Refusal) → x ≡ Ok v → x ≡ Err r → ⊥
-ok_not_err v r x p q = let z : ◌≡◌ {A = ℕ} 0 1 = cc in omega arith
+ok_not_err v r x p q = cc
 
 err_same : (r s : Refusal) (x : Result Verdict Refusal) → x ≡ Err r → x ≡ Err s → r ≡ s
 err_same r s x p q = cc

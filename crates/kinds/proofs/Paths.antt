@@ -62,7 +62,7 @@ member_one (suc j) h = absurd (both_ways (member 1 (suc j)) none h)
 -- Sets and the tags that they wait for ------------------------------------------------------------------------------
 
 descendant : (a : Axis) → descends a ≡ true → a ≡ Descendant
-descendant Child h = absurd (let z : ◌≡◌ {A = ℕ} 0 1 = cc in omega arith)
+descendant Child h = cc
 descendant Descendant h = refl
 
 step_fits_none : {a : PathStep} {rest : List PathStep} → Fits (a ∷ rest) [] → ⊥
@@ -109,7 +109,7 @@ module _ (steps : List PathStep) (some : 1 ≤ length steps) where
           )
 
       added : (j : ℕ) → j < length steps → Fits (drop j steps) (u ∷ us) → adds steps s t j ≡ true → Waits s (t ∷ u ∷ us)
-      added zero h f e = absurd (let z : ◌≡◌ {A = ℕ} 0 1 = cc in omega arith)
+      added zero h f e = cc
       added (suc j) h f e =
           let p = and_parts (member s j) (fits (step_at steps j) t) e in
           let l : j < length steps = omega arith in
@@ -300,5 +300,5 @@ module _ (steps : List PathStep) (some : 1 ≤ length steps) where
     where
       item : (x y a : Bool) → x ≡ true → y ≡ true → (x && y && a) ≡ a
       item true true a p q = refl
-      item true false a p q = absurd (let z : ◌≡◌ {A = ℕ} 0 1 = cc in omega arith)
-      item false y a p q = absurd (let z : ◌≡◌ {A = ℕ} 0 1 = cc in omega arith)
+      item true false a p q = cc
+      item false y a p q = cc
