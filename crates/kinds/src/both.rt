@@ -1,7 +1,7 @@
 // Two books as one: it accepts where both do.
 ghost use Rattle.std.specs.Prelude.{◌≡◌, ◌-◌, ◌<◌, ◌≤◌};
 ghost use Rattle.book.specs.Limits.{most_states};
-ghost use Rattle.kinds.specs.Both.{both_width, joined, both, both_marks, both_lawful, BothAccepts, BothSelects};
+ghost use Rattle.kinds.specs.Both.{both_width, joined, both, both_marks, both_lawful, both_marks_lawful, BothAccepts, BothSelects};
 
 use book::limits::MOST_STATES;
 use book::selecting_book::SelectingBook;
@@ -121,14 +121,9 @@ impl<L: ShapeBook, R: ShapeBook> ShapeBook for Both<L, R> {
 impl<L: SelectingBook, R: SelectingBook> SelectingBook for Both<L, R> {
     ghost marks = { λ o. both_marks (L.ShapeBook.machine o.left) (R.ShapeBook.machine o.right) (L.SelectingBook.marks o.left) (R.SelectingBook.marks o.right) };
 
-    fn marked(&self) {
-        self.left.marked();
-        self.right.marked();
-    }
+    ghost lawful_marks = { λ o. both_marks_lawful (L.ShapeBook.machine o.left) (R.ShapeBook.machine o.right) (L.SelectingBook.marks o.left) (R.SelectingBook.marks o.right) (L.SelectingBook.lawful_marks o.left) (R.SelectingBook.lawful_marks o.right) };
 
     fn mark(&self, state: u16, tag: u8) -> u16 {
-        self.left.marked();
-        self.right.marked();
         let left = self.left.width();
         let right = self.right.width();
         if state < product(left, right) {

@@ -1,11 +1,9 @@
 // Worked cases of the kinds of book: proved as one statement, and run.
 ghost use Rattle.kinds.specs.KindCases.{KindCases};
 
-pub fn kind_cases_stand() -> u8
+pub fn kind_cases_stand()
     ensures { KindCases }
-{
-    0
-}
+{}
 
 #[cfg(test)]
 mod tests {

@@ -1,6 +1,6 @@
 // The opposite of a book: it accepts where the other does not.
 ghost use Rattle.std.specs.Prelude.{◌≡◌};
-ghost use Rattle.kinds.specs.Opposite.{opposite, opposite_lawful, OppositeAccepts, OppositeSelects};
+ghost use Rattle.kinds.specs.Opposite.{opposite, opposite_lawful, opposite_marks_lawful, OppositeAccepts, OppositeSelects};
 
 use book::selecting_book::SelectingBook;
 use book::shape_book::ShapeBook;
@@ -63,9 +63,7 @@ impl<B: ShapeBook> ShapeBook for Opposite<B> {
 impl<B: SelectingBook> SelectingBook for Opposite<B> {
     ghost marks = { λ o. B.SelectingBook.marks o.book };
 
-    fn marked(&self) {
-        self.book.marked();
-    }
+    ghost lawful_marks = { λ o. opposite_marks_lawful (B.ShapeBook.machine o.book) (B.SelectingBook.marks o.book) (B.SelectingBook.lawful_marks o.book) };
 
     fn mark(&self, state: u16, tag: u8) -> u16 {
         self.book.mark(state, tag)

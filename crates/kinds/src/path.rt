@@ -2,7 +2,7 @@
 ghost use Rattle.std.specs.Prelude.{◌≡◌, ◌^◌, ◌<◌, ◌≤◌, true, false, ◌||◌, map, length, take, MatchResult};
 ghost use Rattle.book.specs.Limits.{most_steps};
 ghost use Rattle.book.specs.declared.fault.BookFault.TheVariants.{PathSteps};
-ghost use Rattle.kinds.specs.Path.{step_right, steps_right, path_right, step_of, descends, fits, step_at, member, keeps, adds, enter_set, matches, path_machine, path_marks, take_few, path_lawful, PathSelects};
+ghost use Rattle.kinds.specs.Path.{step_right, steps_right, path_right, step_of, descends, fits, step_at, member, keeps, adds, enter_set, matches, path_machine, path_marks, take_few, path_lawful, path_marks_lawful, PathSelects};
 
 use book::fault::BookFault;
 use book::limits::{MOST_STEPS, TAGS};
@@ -109,7 +109,7 @@ impl ShapeBook for PathBook {
 impl SelectingBook for PathBook {
     ghost marks = { λ b. path_marks (take b.count b.steps) };
 
-    fn marked(&self) {}
+    ghost lawful_marks = { λ b. path_marks_lawful (take b.count b.steps) };
 
     fn mark(&self, state: u16, tag: u8) -> u16 {
         let steps = path(&self.steps, self.count);
