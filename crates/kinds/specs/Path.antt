@@ -1,9 +1,11 @@
 -- The path book: its steps, its meaning, its rules of range, and its law.
-use Rattle.std.specs.Prelude.{◌≡◌, ℕ, zero, suc, ◌+◌, ◌-◌, ◌*◌, ◌/◌, ◌%◌, ◌^◌, ◌<◌, ◌≤◌, Bool, true, false, cond, ◌&&◌, ◌||◌, ◌⊎◌, List, [], ◌∷◌, length, take, Decides, ◌==◌, nat_le, nat_lt, slice_index_or}
+use Rattle.std.specs.Prelude.{◌≡◌, ℕ, if◌then◌else◌, Result, Ok, Err, zero, suc, ◌+◌, ◌-◌, ◌*◌, ◌/◌, ◌%◌, ◌^◌, ◌<◌, ◌≤◌, Bool, true, false, cond, ◌&&◌, ◌||◌, ◌⊎◌, List, [], ◌∷◌, length, take, Decides, ◌==◌, nat_le, nat_lt, slice_index_or}
 use Rattle.std.proofs.Common.{⊎_elim, pow-suc, arith, ltb-true, ne_eqb, length-take, pow_mono, pow_pos}
 use Rattle.std.proofs.lemmas.Bool.{and_parts}
 use Rattle.book.specs.Limits.{tags, most_steps}
 use Rattle.book.specs.declared.event.Event.{Event}
+use Rattle.book.specs.declared.fault.BookFault.{BookFault}
+use Rattle.book.specs.declared.fault.BookFault.TheVariants.{PathSteps}
 use Rattle.kinds.specs.declared.path.Axis.{Axis}
 use Rattle.kinds.specs.declared.path.Axis.TheVariants.{Child, Descendant}
 use Rattle.kinds.specs.declared.path.TagTest.{TagTest}
@@ -38,6 +40,10 @@ test_of t = cond (t == 255) Any (Only t)
 -- the step that the numbers mean
 abbrev pub step_of : Step → PathStep
 step_of s = record { axis = axis_of s.axis; tag = test_of s.tag }
+
+-- the step, or a refusal
+abbrev pub step_from : Step → Result PathStep BookFault
+step_from s = if step_right s then Ok (step_of s) else Err PathSteps
 
 abbrev pub descends : Axis → Bool
 descends Child = false

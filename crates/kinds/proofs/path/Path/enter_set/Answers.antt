@@ -2,8 +2,8 @@ use Rattle.std.proofs.Common.{◌≡◌, ℕ, ◌+◌, ◌^◌, ◌≤◌, Bool,
 use Rattle.std.proofs.lemmas.Nat.{one_shl}
 use Rattle.book.specs.Limits.{most_steps}
 use Rattle.kinds.specs.Path.{set_of, set_of_below, keeps, adds}
-use Rattle.kinds.proofs.path.enter_set.Goals as goal
-use Rattle.kinds.proofs.path.enter_set.Goals.{then-reaches, else-reaches}
+use Rattle.kinds.proofs.path.Path.enter_set.Goals as goal
+use Rattle.kinds.proofs.path.Path.enter_set.Goals.{then-reaches, else-reaches}
 
 -- one place more
 set_of_more : (p : ℕ → Bool) (m x : ℕ) (b : Bool) → b ≡ p m → x ≡ set_of p m + cond b (2 ^ m) 0 → x ≡ set_of p (m + 1)
@@ -14,11 +14,11 @@ overflow_add-next c =
     let e = one_shl c.loop-place.place 16 (omega arith) in
     let few : c.loop-place.place ≤ most_steps = omega arith in
     let p : 2 ^ c.loop-place.place ≤ 2 ^ most_steps = pow_mono few in
-    omega (arith, set_of_below (λ j. keeps c.args.steps.now c.args.set j || adds c.args.steps.now c.args.set c.args.tag j) c.loop-place.place)
+    omega (arith, set_of_below (λ j. keeps c.args.self.now.steps.now c.args.set j || adds c.args.self.now.steps.now c.args.set c.args.tag j) c.loop-place.place)
 
 pub loop-place-preserved : goal.loop-place-preserved
 loop-place-preserved c =
-    let p : ℕ → Bool = λ j. keeps c.args.steps.now c.args.set j || adds c.args.steps.now c.args.set c.args.tag j in
+    let p : ℕ → Bool = λ j. keeps c.args.self.now.steps.now c.args.set j || adds c.args.self.now.steps.now c.args.set c.args.tag j in
     let e = one_shl c.loop-place.place 16 (omega arith) in
     elim c.if-reaches.branch [
       | then-reaches w ↦ set_of_more p c.loop-place.place c.if-reaches.next true w.if-reaches.ensures (omega (arith, c.loop-place.invariant, w.next-is))
