@@ -1,5 +1,5 @@
 -- Two books as one: its meaning, its rules of range, and its laws.
-use Rattle.std.specs.Prelude.{◌≡◌, ℕ, ◌+◌, ◌-◌, ◌*◌, ◌/◌, ◌%◌, ◌<◌, ◌≤◌, Bool, true, false, cond, ◌&&◌, ◌⊎◌, List, nat_le, nat_lt, refl}
+use Rattle.std.specs.Prelude.{◌≡◌, ℕ, if◌then◌else◌, Option, Some, None, ◌+◌, ◌-◌, ◌*◌, ◌/◌, ◌%◌, ◌<◌, ◌≤◌, Bool, true, false, cond, ◌&&◌, ◌⊎◌, List, nat_le, nat_lt, refl}
 use Rattle.std.proofs.Common.{ap, inl, inr, ⊎_elim, zero-mul, mul-zero, arith, leb-true, ltb-true, le-ltb, lit≤}
 use Rattle.std.proofs.Math.Arith.{digits_lt}
 use Rattle.std.proofs.lemmas.Bool.{cases_lt, and_parts}
@@ -17,6 +17,10 @@ both_width v w = cond (nat_le (v * w) most_states) (v * w) 0
 -- the state whose parts are a and b, where the second part has w states
 abbrev pub joined : ℕ → ℕ → ℕ → ℕ
 joined w a b = a * w + b
+
+-- the parts of a state, if it is below the width
+abbrev pub parts_of : ℕ → ℕ → ℕ → Option (ℕ × ℕ)
+parts_of v w s = if nat_lt s (both_width v w) then Some (s / w, s % w) else None
 
 -- two answers to a question about a state and a tag, as one
 abbrev pub by_parts : ℕ → ℕ → (ℕ → ℕ → ℕ) → (ℕ → ℕ → ℕ) → ℕ → ℕ → ℕ

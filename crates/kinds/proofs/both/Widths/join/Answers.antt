@@ -1,7 +1,7 @@
 use Rattle.std.proofs.Common.{ℕ, ◌-◌, ◌*◌, ◌<◌, ◌≤◌, leb, refl, arith}
 use Rattle.book.specs.Limits.{most_states}
 use Rattle.kinds.specs.Both.{joined, both_width, joined_within, both_narrow}
-use Rattle.kinds.proofs.both.join.Goals as goal
+use Rattle.kinds.proofs.both.Widths.join.Goals as goal
 
 joined_small : (v w x y : ℕ) → x ≤ v - 1 → y ≤ w - 1 → 0 < both_width v w → joined w x y ≤ most_states
 joined_small v w x y hx hy some =
@@ -10,7 +10,7 @@ joined_small v w x y hx hy some =
     omega arith
 
 pub overflow_mul-result : goal.overflow_mul-result
-overflow_mul-result c = omega (arith, joined_small c.args.left_width c.args.right_width c.args.left c.args.right c.requires.left_bound c.requires.right_bound c.requires.right_width_nonzero)
+overflow_mul-result c = omega (arith, joined_small c.args.self.left c.args.self.right c.args.left c.args.right c.requires.left_bound c.requires.right_bound c.requires.some)
 
 pub overflow_add-result : goal.overflow_add-result
-overflow_add-result c = omega (arith, joined_small c.args.left_width c.args.right_width c.args.left c.args.right c.requires.left_bound c.requires.right_bound c.requires.right_width_nonzero)
+overflow_add-result c = omega (arith, joined_small c.args.self.left c.args.self.right c.args.left c.args.right c.requires.left_bound c.requires.right_bound c.requires.some)
