@@ -17,8 +17,8 @@ pub struct Both<L: ShapeBook, R: ShapeBook> {
 impl<L: ShapeBook, R: ShapeBook> Both<L, R> {
     pub fn new(left: L, right: R) -> Both<L, R>
         ensures value { (result.left ≡ left) × (result.right ≡ right) }
-        ensures accepts { BothAccepts (L.ShapeBook.machine left) (R.ShapeBook.machine right) }
-        ensures selects { BothSelects (L.ShapeBook.machine left) (R.ShapeBook.machine right) }
+        ensures accepts { BothAccepts (L.machine left) (R.machine right) }
+        ensures selects { BothSelects (L.machine left) (R.machine right) }
     {
         laws(&left, &right);
         Both { left, right }
@@ -34,8 +34,8 @@ impl<L: ShapeBook, R: ShapeBook> Both<L, R> {
 
 // No effect: what two books accept and select together.
 fn laws<L: ShapeBook, R: ShapeBook>(left: &L, right: &R)
-    ensures accepts { BothAccepts (L.ShapeBook.machine left.now) (R.ShapeBook.machine right.now) }
-    ensures selects { BothSelects (L.ShapeBook.machine left.now) (R.ShapeBook.machine right.now) }
+    ensures accepts { BothAccepts (L.machine left.now) (R.machine right.now) }
+    ensures selects { BothSelects (L.machine left.now) (R.machine right.now) }
 {}
 
 // The widths of two books, each within the limit.
@@ -80,7 +80,7 @@ impl Widths {
 
 impl<L: ShapeBook, R: ShapeBook> Both<L, R> {
     fn widths(&self) -> Widths
-        ensures { (result.left ≡ (L.ShapeBook.machine self.now.left).width) × (result.right ≡ (R.ShapeBook.machine self.now.right).width) }
+        ensures { (result.left ≡ (L.machine self.now.left).width) × (result.right ≡ (R.machine self.now.right).width) }
     {
         Widths {
             left: self.left.width(),
@@ -90,9 +90,9 @@ impl<L: ShapeBook, R: ShapeBook> Both<L, R> {
 }
 
 impl<L: ShapeBook, R: ShapeBook> ShapeBook for Both<L, R> {
-    ghost machine = { λ o. both (L.ShapeBook.machine o.left) (R.ShapeBook.machine o.right) };
+    ghost machine = { λ o. both (L.machine o.left) (R.machine o.right) };
 
-    ghost lawful = { λ o. both_lawful (L.ShapeBook.machine o.left) (R.ShapeBook.machine o.right) (L.ShapeBook.lawful o.left) (R.ShapeBook.lawful o.right) };
+    ghost lawful = { λ o. both_lawful (L.machine o.left) (R.machine o.right) (L.lawful o.left) (R.lawful o.right) };
 
     fn width(&self) -> u16 {
         self.widths().product()
@@ -136,9 +136,9 @@ impl<L: ShapeBook, R: ShapeBook> ShapeBook for Both<L, R> {
 }
 
 impl<L: SelectingBook, R: SelectingBook> SelectingBook for Both<L, R> {
-    ghost marks = { λ o. both_marks (L.ShapeBook.machine o.left) (R.ShapeBook.machine o.right) (L.SelectingBook.marks o.left) (R.SelectingBook.marks o.right) };
+    ghost marks = { λ o. both_marks (L.machine o.left) (R.machine o.right) (L.marks o.left) (R.marks o.right) };
 
-    ghost lawful_marks = { λ o. both_marks_lawful (L.ShapeBook.machine o.left) (R.ShapeBook.machine o.right) (L.SelectingBook.marks o.left) (R.SelectingBook.marks o.right) (L.SelectingBook.lawful_marks o.left) (R.SelectingBook.lawful_marks o.right) };
+    ghost lawful_marks = { λ o. both_marks_lawful (L.machine o.left) (R.machine o.right) (L.marks o.left) (R.marks o.right) (L.lawful_marks o.left) (R.lawful_marks o.right) };
 
     fn mark(&self, state: u16, tag: u8) -> u16 {
         let widths = self.widths();

@@ -13,8 +13,8 @@ pub struct Opposite<B: ShapeBook> {
 impl<B: ShapeBook> Opposite<B> {
     pub fn new(book: B) -> Opposite<B>
         ensures value { result.book ≡ book }
-        ensures accepts { OppositeAccepts (B.ShapeBook.machine book) }
-        ensures selects { OppositeSelects (B.ShapeBook.machine book) }
+        ensures accepts { OppositeAccepts (B.machine book) }
+        ensures selects { OppositeSelects (B.machine book) }
     {
         laws(&book);
         Opposite { book }
@@ -30,14 +30,14 @@ impl<B: ShapeBook> Opposite<B> {
 
 // No effect: what the opposite of a book accepts and selects.
 fn laws<B: ShapeBook>(book: &B)
-    ensures accepts { OppositeAccepts (B.ShapeBook.machine book.now) }
-    ensures selects { OppositeSelects (B.ShapeBook.machine book.now) }
+    ensures accepts { OppositeAccepts (B.machine book.now) }
+    ensures selects { OppositeSelects (B.machine book.now) }
 {}
 
 impl<B: ShapeBook> ShapeBook for Opposite<B> {
-    ghost machine = { λ o. opposite (B.ShapeBook.machine o.book) };
+    ghost machine = { λ o. opposite (B.machine o.book) };
 
-    ghost lawful = { λ o. opposite_lawful (B.ShapeBook.machine o.book) (B.ShapeBook.lawful o.book) };
+    ghost lawful = { λ o. opposite_lawful (B.machine o.book) (B.lawful o.book) };
 
     fn width(&self) -> u16 {
         self.book.width()
@@ -61,9 +61,9 @@ impl<B: ShapeBook> ShapeBook for Opposite<B> {
 }
 
 impl<B: SelectingBook> SelectingBook for Opposite<B> {
-    ghost marks = { λ o. B.SelectingBook.marks o.book };
+    ghost marks = { λ o. B.marks o.book };
 
-    ghost lawful_marks = { λ o. opposite_marks_lawful (B.ShapeBook.machine o.book) (B.SelectingBook.marks o.book) (B.SelectingBook.lawful_marks o.book) };
+    ghost lawful_marks = { λ o. opposite_marks_lawful (B.machine o.book) (B.marks o.book) (B.lawful_marks o.book) };
 
     fn mark(&self, state: u16, tag: u8) -> u16 {
         self.book.mark(state, tag)
