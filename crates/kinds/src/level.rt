@@ -15,11 +15,11 @@ pub struct LevelShape {
 }
 
 impl LevelShape {
+    #[tactic(auto, using(crate::proofs::LevelShapes::level_accepts))]
     pub fn new(depth: u8) -> Result<LevelShape, BookFault>
         ensures value { MatchResult result (λ s. (depth_right depth ≡ true) × (s.depth ≡ depth)) (λ f. (depth_right depth ≡ false) × (f ≡ LevelDepth)) }
         ensures accepts { LevelAccepts depth }
     {
-        law(depth);
         if depth < 1 || depth > MOST_DEPTH {
             return Err(BookFault::LevelDepth);
         }
@@ -28,11 +28,6 @@ impl LevelShape {
         })
     }
 }
-
-// No effect: what a level shape accepts.
-fn law(depth: u8)
-    ensures { LevelAccepts depth }
-{}
 
 impl ShapeBook for LevelShape {
     ghost machine = { λ s. level_machine s.depth };
