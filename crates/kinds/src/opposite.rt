@@ -29,6 +29,7 @@ impl<B: ShapeBook> Opposite<B> {
 }
 
 // No effect: what the opposite of a book accepts and selects.
+#[tactic(auto, using(crate::proofs::Opposites::opposite_accepts, crate::proofs::Opposites::opposite_selects))]
 fn laws<B: ShapeBook>(book: &B)
     ensures accepts { OppositeAccepts (B.machine book.now) }
     ensures selects { OppositeSelects (B.machine book.now) }

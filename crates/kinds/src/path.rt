@@ -95,6 +95,7 @@ struct Path<'a> {
 
 impl<'a> Path<'a> {
     // How many sets there are.
+    #[tactic(auto, using(std::proofs::lemmas::Nat::one_shl, std::proofs::Common::pow_mono))]
     fn sets(&self) -> u16
         ensures { (result ≡ 2 ^ length self.now.steps.now) × (result ≤ 2 ^ most_steps) }
     {
@@ -169,6 +170,7 @@ fn row_of(steps: &[Step]) -> Result<[PathStep; MOST_STEPS], BookFault>
 }
 
 impl PathBook {
+    #[tactic(auto, using(crate::proofs::Paths::path_selects))]
     pub fn new(steps: &[Step]) -> Result<PathBook, BookFault>
         ensures { MatchResult result (λ b. (path_right steps.now ≡ true) × (take b.count b.steps ≡ map step_of steps.now) × PathSelects (take b.count b.steps)) (λ f. (path_right steps.now ≡ false) × (f ≡ PathSteps)) }
     {
