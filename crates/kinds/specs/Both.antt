@@ -5,7 +5,6 @@ use Rattle.std.proofs.Math.Arith.{digits_lt}
 use Rattle.std.proofs.lemmas.Bool.Decides.{nat_tests}
 use Rattle.book.specs.Limits.{tags, most_states}
 use Rattle.book.specs.declared.event.Event.{Event}
-use Rattle.kinds.specs.OutOfRange.{answer_within, answer_none}
 use Rattle.book.specs.Machines.{Machine, Marks, Lawful, LawfulMarks, selecting, accepted, selected}
 
 -- Meaning ---------------------------------------------------------------------------------------------------------

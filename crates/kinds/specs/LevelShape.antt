@@ -5,7 +5,6 @@ use Rattle.std.proofs.lemmas.Bool.Decides.{nat_tests}
 use Rattle.book.specs.Limits.{tags, most_depth}
 use Rattle.book.specs.declared.event.Event.{Event}
 use Rattle.book.specs.Catalogue.{Catalogue, opened}
-use Rattle.kinds.specs.OutOfRange.{answer_within, answer_none}
 use Rattle.book.specs.Machines.{Machine, Lawful, accepted}
 use Rattle.kinds.specs.Places.{depth_of}
 

@@ -68,6 +68,7 @@ impl Widths {
     }
 
     // The state whose parts are `left` and `right`.
+    #[tactic(auto, using(crate::specs::Both::joined_within, crate::specs::Both::both_narrow))]
     fn join(self, left: u16, right: u16) -> u16
         requires left_bound { left ≤ self.left - 1 }
         requires right_bound { right ≤ self.right - 1 }
