@@ -1,5 +1,5 @@
 -- The law of the path book.
-use Rattle.std.proofs.Common.{◌≡◌, ℕ, zero, suc, ◌+◌, ◌-◌, ◌*◌, ◌/◌, ◌%◌, ◌^◌, ◌<◌, ◌≤◌, Bool, true, false, cond, ◌&&◌, ◌||◌, eqb, ltb, leb, ◌⊎◌, List, [], ◌∷◌, reverse, length, drop, Decides, sym, refl, ap, ◌∙◌, subst, inl, inr, add-zero, pow-suc, arith, drop-cons, pow_pos}
+use Rattle.std.proofs.Common.{◌≡◌, ℕ, zero, suc, ◌+◌, ◌-◌, ◌*◌, ◌/◌, ◌%◌, ◌^◌, ◌<◌, ◌≤◌, Bool, true, false, cond, ◌&&◌, ◌||◌, eqb, ltb, leb, ◌⊎◌, List, [], ◌∷◌, reverse, length, drop, Decides, sym, refl, ap, ◌∙◌, subst, inl, inr, add-one, add-zero, pow-suc, arith, drop-cons, pow_pos}
 use mathlib.Core.List.{reverse_aux}
 use native.Mathlib.Nat.{div-eq_of_lt, add-mul-div_right}
 use Rattle.std.specs.List.{AllByRecursion}
@@ -29,6 +29,10 @@ lower_bit j m x h =
     let e : m ≡ suc k + j = omega arith in
     ap (λ (n : ℕ). (x + 2 ^ n) / 2 ^ j % 2) e ∙ ap (λ (y : ℕ). (x + y) / 2 ^ j % 2) (pow-add 2 (suc k) j)
     ∙ ap (λ (y : ℕ). y % 2) (add-mul-div_right x (2 ^ suc k) (pow_pos j)) ∙ (let p : 2 ^ suc k ≡ 2 ^ k * 2 = pow-suc 2 k in omega arith)
+
+-- one number more
+pub set_more : (p : ℕ → Bool) (m : ℕ) → set_of p (m + 1) ≡ set_of p m + cond (p m) (2 ^ m) 0
+set_more p m = ap (set_of p) (add-one m)
 
 member_set_of : (p : ℕ → Bool) (m j : ℕ) → j < m → member (set_of p m) j ≡ p j
 member_set_of p zero j h = absurd (omega arith)

@@ -113,10 +113,12 @@ impl<'a> Path<'a> {
     }
 
     // The set inside an item with this tag.
+    #[tactic(auto, using(std::proofs::lemmas::Nat::one_shl, std::proofs::Common::pow_mono, crate::specs::Path::set_of_below, crate::proofs::Paths::set_more))]
     fn enter_set(&self, set: u16, tag: u8) -> u16
         ensures { result ≡ enter_set self.now.steps.now set tag }
     {
         let mut next = 0;
+        // It goes over the bits of the set, each by the step there and the one before.
         for place in 0..self.steps.len() {
             if self.reaches(set, tag, place) {
                 next += 1 << place;
