@@ -1,6 +1,6 @@
 -- The level shape: its meaning, its rules of range, and its law.
-use Rattle.std.specs.Prelude.{◌≡◌, ℕ, ◌+◌, ◌-◌, ◌<◌, ◌≤◌, Bool, true, false, cond, ◌&&◌, ◌⊎◌, List, Decides, ◌==◌, nat_le, nat_lt, refl}
-use Rattle.std.proofs.Common.{⊎_elim, arith, ltb-true}
+use Rattle.std.specs.Prelude.{ℕ, ◌+◌, ◌≤◌, Bool, cond, ◌&&◌, List, Decides, ◌==◌, nat_le, nat_lt}
+use Rattle.std.proofs.Common.{arith}
 use Rattle.std.proofs.lemmas.Bool.Decides.{nat_tests}
 use Rattle.book.specs.Limits.{tags, most_depth}
 use Rattle.book.specs.declared.event.Event.{Event}

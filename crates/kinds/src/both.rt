@@ -32,7 +32,7 @@ impl<L: ShapeBook, R: ShapeBook> Both<L, R> {
     }
 }
 
-// No effect: what two books accept and select together.
+// No effect: what two books accept and select together. `new` shows it by this call.
 fn laws<L: ShapeBook, R: ShapeBook>(left: &L, right: &R)
     ensures accepts { BothAccepts (L.machine left.now) (R.machine right.now) }
     ensures selects { BothSelects (L.machine left.now) (R.machine right.now) }

@@ -28,7 +28,7 @@ impl<B: ShapeBook> Opposite<B> {
     }
 }
 
-// No effect: what the opposite of a book accepts and selects.
+// No effect: what the opposite of a book accepts and selects. `new` shows it by this call.
 #[tactic(auto, using(crate::proofs::Opposites::opposite_accepts, crate::proofs::Opposites::opposite_selects))]
 fn laws<B: ShapeBook>(book: &B)
     ensures accepts { OppositeAccepts (B.machine book.now) }
