@@ -209,7 +209,7 @@ impl PathBook {
 impl ShapeBook for PathBook {
     ghost machine = { λ b. path_machine (steps_of b.row) };
 
-    ghost lawful = { λ b. path_lawful (steps_of b.row) (few_steps b.row b.few) };
+    ghost lawful = { λ b. path_lawful _ (few_steps b.row b.few) };
 
     fn width(&self) -> u16 {
         self.path().sets() + 2
@@ -250,7 +250,7 @@ impl ShapeBook for PathBook {
 impl SelectingBook for PathBook {
     ghost marks = { λ b. path_marks (steps_of b.row) };
 
-    ghost lawful_marks = { λ b. path_marks_lawful (steps_of b.row) };
+    ghost lawful_marks = { λ b. path_marks_lawful _ };
 
     fn mark(&self, state: u16, tag: u8) -> u16 {
         let path = self.path();
