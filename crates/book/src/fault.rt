@@ -30,6 +30,7 @@ pub enum BookFault {
 }
 
 impl BookFault {
+    // The numbers stand here, since a variant with a field has none that `as` could read.
     pub fn number(self) -> u32
         ensures { result ≡ fault_number self }
     {

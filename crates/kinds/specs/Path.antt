@@ -1,6 +1,6 @@
 -- The path book: its steps, its meaning, its rules of range, and its law.
-use Rattle.std.specs.Prelude.{◌≡◌, ℕ, if◌then◌else◌, Result, Ok, Err, zero, suc, ◌+◌, ◌-◌, ◌*◌, ◌/◌, ◌%◌, ◌^◌, ◌<◌, ◌≤◌, Bool, true, false, cond, ◌&&◌, ◌||◌, ◌⊎◌, List, [], ◌∷◌, length, take, Decides, ◌==◌, nat_le, nat_lt, slice_index_or}
-use Rattle.std.proofs.Common.{⊎_elim, pow-suc, arith, ltb-true, ne_eqb, length-take, pow_mono, pow_pos}
+use Rattle.std.specs.Prelude.{◌≡◌, ℕ, if◌then◌else◌, Result, Ok, Err, zero, suc, ◌+◌, ◌-◌, ◌*◌, ◌/◌, ◌%◌, ◌^◌, ◌<◌, ◌≤◌, Bool, true, false, cond, ◌&&◌, ◌||◌, List, [], ◌∷◌, length, take, Decides, ◌==◌, nat_le, nat_lt, slice_index_or}
+use Rattle.std.proofs.Common.{pow-suc, arith, length-take, pow_mono, pow_pos}
 use Rattle.std.proofs.lemmas.Bool.Decides.{nat_tests}
 use Rattle.book.specs.Limits.{tags, most_steps}
 use Rattle.book.specs.declared.event.Event.{Event}
@@ -11,6 +11,7 @@ use Rattle.kinds.specs.declared.path.Axis.TheVariants.{Child, Descendant}
 use Rattle.kinds.specs.declared.path.TagTest.{TagTest}
 use Rattle.kinds.specs.declared.path.TagTest.TheVariants.{Any, Only}
 use Rattle.kinds.specs.declared.path.PathStep.{PathStep}
+use Rattle.kinds.specs.declared.path.Row.{Row}
 use Rattle.kinds.specs.declared.path.Step.{Step}
 use Rattle.book.specs.Catalogue.{Catalogue, opened}
 use Rattle.book.specs.Machines.{Machine, Marks, Lawful, LawfulMarks, selecting, selected}
@@ -31,10 +32,10 @@ abbrev pub path_right : List Step → Bool
 path_right ss = nat_le 1 (length ss) && (nat_le (length ss) most_steps && steps_right ss)
 
 abbrev pub axis_of : ℕ → Axis
-axis_of a = cond (a == 0) Child Descendant
+axis_of a = if a == 0 then Child else Descendant
 
 abbrev pub test_of : ℕ → TagTest
-test_of t = cond (t == 255) Any (Only t)
+test_of t = if t == 255 then Any else Only t
 
 -- the step that the numbers mean
 abbrev pub step_of : Step → PathStep
@@ -59,6 +60,10 @@ fits a t = passes a.tag t
 -- step j + 1 of a path
 abbrev pub step_at : List PathStep → ℕ → PathStep
 step_at steps j = slice_index_or steps j (record { axis = Child; tag = Any })
+
+-- the steps that a row holds
+abbrev pub steps_of : Row → List PathStep
+steps_of r = take r.count r.steps
 
 -- Meaning ---------------------------------------------------------------------------------------------------------
 
@@ -99,14 +104,16 @@ path_machine steps =
     record {
       width = 2 ^ length steps + 2;
       start = 1;
-      enter = λ s t. cond (nat_lt s (2 ^ length steps + 2) && nat_lt t tags) (cond (nat_lt s (2 ^ length steps)) (enter_set steps s t) s) 0;
-      back = λ s q t. cond (nat_lt s (2 ^ length steps + 2) && (nat_lt q (2 ^ length steps + 2) && nat_lt t tags)) (cond (nat_lt q (2 ^ length steps)) s q) 0;
+      enter = λ s t. if nat_lt s (2 ^ length steps + 2) && nat_lt t tags then (if nat_lt s (2 ^ length steps) then enter_set steps s t else s) else 0;
+      back = λ s q t. if nat_lt s (2 ^ length steps + 2) && (nat_lt q (2 ^ length steps + 2) && nat_lt t tags) then (if nat_lt q (2 ^ length steps) then s else q) else 0;
       accepts = λ s. (s == hit (length steps));
     }
 
 abbrev pub path_marks : List PathStep → Marks
 path_marks steps s t =
-    cond (nat_lt s (2 ^ length steps + 2) && nat_lt t tags) (cond (nat_lt s (2 ^ length steps)) (cond (matches steps s t) (hit (length steps)) (miss (length steps))) s) 0
+    if nat_lt s (2 ^ length steps + 2) && nat_lt t tags
+    then (if nat_lt s (2 ^ length steps) then (if matches steps s t then hit (length steps) else miss (length steps)) else s)
+    else 0
 
 -- Rules of range --------------------------------------------------------------------------------------------------
 
@@ -138,8 +145,8 @@ module _ (steps : List PathStep) where
         no_mark = λ s t o. grind (arith, nat_tests);
       }
 
-pub take_few : (n : ℕ) (steps : List PathStep) → n ≤ most_steps → length (take n steps) ≤ most_steps
-take_few n steps few = simp length-take (omega arith)
+pub few_steps : (r : Row) → r.count ≤ most_steps → length (steps_of r) ≤ most_steps
+few_steps r few = simp length-take (omega arith)
 
 -- Law -------------------------------------------------------------------------------------------------------------
 

@@ -32,7 +32,7 @@ impl<L: ShapeBook, R: ShapeBook> Both<L, R> {
     }
 }
 
-// No effect: what two books accept and select together.
+// No effect: what two books accept and select together. `new` shows it by this call.
 fn laws<L: ShapeBook, R: ShapeBook>(left: &L, right: &R)
     ensures accepts { BothAccepts (L.machine left.now) (R.machine right.now) }
     ensures selects { BothSelects (L.machine left.now) (R.machine right.now) }
@@ -93,7 +93,7 @@ impl<L: ShapeBook, R: ShapeBook> Both<L, R> {
 impl<L: ShapeBook, R: ShapeBook> ShapeBook for Both<L, R> {
     ghost machine = { λ o. both (L.machine o.left) (R.machine o.right) };
 
-    ghost lawful = { λ o. both_lawful (L.machine o.left) (R.machine o.right) (L.lawful o.left) (R.lawful o.right) };
+    ghost lawful = { λ o. both_lawful _ _ (L.lawful o.left) (R.lawful o.right) };
 
     fn width(&self) -> u16 {
         self.widths().product()
@@ -107,6 +107,7 @@ impl<L: ShapeBook, R: ShapeBook> ShapeBook for Both<L, R> {
         widths.join(self.left.start(), self.right.start())
     }
 
+    // `mark` goes the same way: one function for both would need two closures, and what they answer, in its contract.
     fn enter(&self, state: u16, tag: u8) -> u16 {
         let widths = self.widths();
         let Some((left, right)) = widths.parts(state) else {
@@ -139,7 +140,7 @@ impl<L: ShapeBook, R: ShapeBook> ShapeBook for Both<L, R> {
 impl<L: SelectingBook, R: SelectingBook> SelectingBook for Both<L, R> {
     ghost marks = { λ o. both_marks (L.machine o.left) (R.machine o.right) (L.marks o.left) (R.marks o.right) };
 
-    ghost lawful_marks = { λ o. both_marks_lawful (L.machine o.left) (R.machine o.right) (L.marks o.left) (R.marks o.right) (L.lawful_marks o.left) (R.lawful_marks o.right) };
+    ghost lawful_marks = { λ o. both_marks_lawful _ _ _ _ (L.lawful_marks o.left) (R.lawful_marks o.right) };
 
     fn mark(&self, state: u16, tag: u8) -> u16 {
         let widths = self.widths();

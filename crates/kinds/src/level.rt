@@ -32,7 +32,7 @@ impl LevelShape {
 impl ShapeBook for LevelShape {
     ghost machine = { λ s. level_machine s.depth };
 
-    ghost lawful = { λ s. level_lawful s.depth s.shallow };
+    ghost lawful = { λ s. level_lawful _ s.shallow };
 
     fn width(&self) -> u16 {
         self.depth + 2

@@ -28,7 +28,7 @@ impl<B: ShapeBook> Opposite<B> {
     }
 }
 
-// No effect: what the opposite of a book accepts and selects.
+// No effect: what the opposite of a book accepts and selects. `new` shows it by this call.
 #[tactic(auto, using(crate::proofs::Opposites::opposite_accepts, crate::proofs::Opposites::opposite_selects))]
 fn laws<B: ShapeBook>(book: &B)
     ensures accepts { OppositeAccepts (B.machine book.now) }
@@ -38,7 +38,7 @@ fn laws<B: ShapeBook>(book: &B)
 impl<B: ShapeBook> ShapeBook for Opposite<B> {
     ghost machine = { λ o. opposite (B.machine o.book) };
 
-    ghost lawful = { λ o. opposite_lawful (B.machine o.book) (B.lawful o.book) };
+    ghost lawful = { λ o. opposite_lawful _ (B.lawful o.book) };
 
     fn width(&self) -> u16 {
         self.book.width()
@@ -64,7 +64,7 @@ impl<B: ShapeBook> ShapeBook for Opposite<B> {
 impl<B: SelectingBook> SelectingBook for Opposite<B> {
     ghost marks = { λ o. B.marks o.book };
 
-    ghost lawful_marks = { λ o. opposite_marks_lawful (B.machine o.book) (B.marks o.book) (B.lawful_marks o.book) };
+    ghost lawful_marks = { λ o. opposite_marks_lawful _ _ (B.lawful_marks o.book) };
 
     fn mark(&self, state: u16, tag: u8) -> u16 {
         self.book.mark(state, tag)

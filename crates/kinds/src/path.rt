@@ -2,7 +2,7 @@
 ghost use Rattle.std.specs.Prelude.{◌≡◌, ◌^◌, ◌<◌, ◌≤◌, true, false, ◌||◌, map, length, take, MatchResult};
 ghost use Rattle.book.specs.Limits.{most_steps};
 ghost use Rattle.book.specs.declared.fault.BookFault.TheVariants.{PathSteps};
-ghost use Rattle.kinds.specs.Path.{steps_right, path_right, step_of, step_from, descends, passes, member, keeps, adds, enter_set, matches, path_machine, path_marks, take_few, path_lawful, path_marks_lawful, PathSelects};
+ghost use Rattle.kinds.specs.Path.{steps_right, path_right, step_of, step_from, steps_of, descends, fits, member, keeps, adds, enter_set, matches, path_machine, path_marks, few_steps, path_lawful, path_marks_lawful, PathSelects};
 
 use book::fault::BookFault;
 use book::limits::{MOST_STEPS, TAGS};
@@ -74,7 +74,7 @@ impl PathStep {
     }
 
     fn fits(self, tag: u8) -> bool
-        ensures { result ≡ passes self.tag tag }
+        ensures { result ≡ fits self tag }
     {
         match self.tag {
             TagTest::Any => true,
@@ -93,7 +93,7 @@ struct Path<'a> {
     ghost few: { length steps.now ≤ most_steps },
 }
 
-impl<'a> Path<'a> {
+impl Path<'_> {
     // How many sets there are.
     #[tactic(auto, using(std::proofs::lemmas::Nat::one_shl, std::proofs::Common::pow_mono))]
     fn sets(&self) -> u16
@@ -146,61 +146,70 @@ fn has(set: u16, place: usize) -> bool
 
 // The book --------------------------------------------------------------------------------------------------------
 
-// The path is the first `count` steps; the others fill the row.
+// The path is the first `count` steps, and the others fill the row: it stands in the book itself, so that no path can
+// run out of memory, and books of paths are copied.
 #[derive(Clone, Copy)]
-pub struct PathBook {
+struct Row {
     steps: [PathStep; MOST_STEPS],
     count: usize,
-    ghost some: { 1 ≤ count },
-    ghost few: { count ≤ most_steps },
 }
 
-// The steps that the numbers mean, and some to fill the row.
-fn row_of(steps: &[Step]) -> Result<[PathStep; MOST_STEPS], BookFault>
-    requires { length steps.now ≤ most_steps }
-    ensures { MatchResult result (λ row. (steps_right steps.now ≡ true) × (take (length steps.now) row ≡ map step_of steps.now)) (λ f. (steps_right steps.now ≡ false) × (f ≡ PathSteps)) }
-{
-    let filler = PathStep {
-        axis: Axis::Child,
-        tag: TagTest::Any,
-    };
-    let mut row = [filler; MOST_STEPS];
-    for (place, step) in steps.iter().enumerate() {
-        row[place] = PathStep::try_from(*step)?;
+impl Row {
+    // The steps that the numbers mean.
+    fn of(given: &[Step]) -> Result<Row, BookFault>
+        requires { length given.now ≤ most_steps }
+        ensures { MatchResult result (λ row. (steps_right given.now ≡ true) × (row.count ≡ length given.now) × (steps_of row ≡ map step_of given.now)) (λ f. (steps_right given.now ≡ false) × (f ≡ PathSteps)) }
+    {
+        let filler = PathStep {
+            axis: Axis::Child,
+            tag: TagTest::Any,
+        };
+        let mut steps = [filler; MOST_STEPS];
+        for (place, step) in given.iter().enumerate() {
+            steps[place] = PathStep::try_from(*step)?;
+        }
+        Ok(Row {
+            steps,
+            count: given.len(),
+        })
     }
-    Ok(row)
+}
+
+#[derive(Clone, Copy)]
+pub struct PathBook {
+    row: Row,
+    ghost some: { 1 ≤ row.count },
+    ghost few: { row.count ≤ most_steps },
 }
 
 impl PathBook {
     #[tactic(auto, using(crate::proofs::Paths::path_selects))]
     pub fn new(steps: &[Step]) -> Result<PathBook, BookFault>
-        ensures { MatchResult result (λ b. (path_right steps.now ≡ true) × (take b.count b.steps ≡ map step_of steps.now) × PathSelects (take b.count b.steps)) (λ f. (path_right steps.now ≡ false) × (f ≡ PathSteps)) }
+        ensures { MatchResult result (λ b. (path_right steps.now ≡ true) × (steps_of b.row ≡ map step_of steps.now) × PathSelects (steps_of b.row)) (λ f. (path_right steps.now ≡ false) × (f ≡ PathSteps)) }
     {
         let count = steps.len();
         if count < 1 || count > MOST_STEPS {
             return Err(BookFault::PathSteps);
         }
-        let book = PathBook {
-            steps: row_of(steps)?,
-            count,
-        };
-        Ok(book)
+        Ok(PathBook {
+            row: Row::of(steps)?,
+        })
     }
 
     fn path(&self) -> Path<'_>
-        ensures { result.steps.now ≡ take self.now.count self.now.steps }
+        ensures { result.steps.now ≡ steps_of self.now.row }
     {
         Path {
-            steps: &self.steps[..self.count],
+            steps: &self.row.steps[..self.row.count],
         }
     }
 }
 
 // A state below `miss` is a set of matched steps; `miss + 1` is hit.
 impl ShapeBook for PathBook {
-    ghost machine = { λ b. path_machine (take b.count b.steps) };
+    ghost machine = { λ b. path_machine (steps_of b.row) };
 
-    ghost lawful = { λ b. path_lawful (take b.count b.steps) (take_few b.count b.steps b.few) };
+    ghost lawful = { λ b. path_lawful _ (few_steps b.row b.few) };
 
     fn width(&self) -> u16 {
         self.path().sets() + 2
@@ -239,9 +248,9 @@ impl ShapeBook for PathBook {
 }
 
 impl SelectingBook for PathBook {
-    ghost marks = { λ b. path_marks (take b.count b.steps) };
+    ghost marks = { λ b. path_marks (steps_of b.row) };
 
-    ghost lawful_marks = { λ b. path_marks_lawful (take b.count b.steps) };
+    ghost lawful_marks = { λ b. path_marks_lawful _ };
 
     fn mark(&self, state: u16, tag: u8) -> u16 {
         let path = self.path();
