@@ -125,4 +125,4 @@ read_back f r =
     (tables_back h 10 t.accept t.enter f.mark t.up t.side rest r.accept r.enter r.mark r.up r.side)
     (10 + tables_size h) rest refl
     (behind_back h 10 t.accept t.enter f.mark t.up t.side rest r.accept r.enter r.mark r.up r.side)
-    f.names (sym (ap (λ n. names_at (length bs) n (10 + tables_size h) rest) (sym count) ∙ names_back (length bs) (10 + tables_size h) f.names r.names)))
+    f.names (sym (ap (λ n. names_at (10 + tables_size h + length rest) n (10 + tables_size h) rest) (sym count) ∙ names_back (10 + tables_size h + length rest) (10 + tables_size h) f.names r.names)))

@@ -1,4 +1,4 @@
-use Rattle.book_file.specs.Table.{table_marked}
+use Rattle.book_file.specs.Ranges.{table_marked}
 use Rattle.book_file.proofs.table.SelectingTableBookSelectingBook.marked.Goals as goal
 
 pub returns : goal.returns
