@@ -1,5 +1,5 @@
 -- Reading a file part by part.
-use Rattle.std.proofs.Common.{◌≡◌, ℕ, ◌+◌, ◌-◌, ◌≤◌, cond, ltb, List, length, drop, Ok, Err, Result, sym, ap, ◌∙◌, arith, le-ltb}
+use Rattle.std.proofs.Common.{◌≡◌, ℕ, ◌+◌, ◌-◌, ◌≤◌, cond, nat_lt, List, length, drop, Ok, Err, Result, sym, ap, ◌∙◌, arith, le-ltb}
 use Rattle.std.proofs.lemmas.List.{drop-drop, length-drop}
 use Rattle.std.proofs.lemmas.Bool.{cond-false}
 use Rattle.book.specs.declared.fault.BookFault.{BookFault}
@@ -14,8 +14,8 @@ named bs h ts = then (names_at (length bs) (h.columns - 1) (10 + tables_size h) 
 module _ (bs : List ℕ) (h : Header) (e : Ok h ≡ header bs) (whole : 10 + tables_size h ≤ length bs) where
   pub reading_tables : reading bs ≡ then (tables_at h 10 (drop 10 bs)) (named bs h)
   reading_tables =
-      ap (λ r. then r (λ k. cond (ltb (length bs) (10 + tables_size k)) (Err (CutOff (length bs))) (then (tables_at k 10 (drop 10 bs)) (named bs k)))) (sym e)
-      ∙ cond-false (ltb (length bs) (10 + tables_size h)) (Err (CutOff (length bs))) (then (tables_at h 10 (drop 10 bs)) (named bs h)) (le-ltb (length bs) (10 + tables_size h) whole)
+      ap (λ r. then r (λ k. cond (nat_lt (length bs) (10 + tables_size k)) (Err (CutOff (length bs))) (then (tables_at k 10 (drop 10 bs)) (named bs k)))) (sym e)
+      ∙ cond-false (nat_lt (length bs) (10 + tables_size h)) (Err (CutOff (length bs))) (then (tables_at h 10 (drop 10 bs)) (named bs h)) (le-ltb (length bs) (10 + tables_size h) whole)
 
   pub tables_fault : (x : BookFault) → Err x ≡ tables_at h 10 (drop 10 bs) → Err x ≡ reading bs
   tables_fault x t = ap (λ r. then r (named bs h)) t ∙ sym reading_tables

@@ -1,5 +1,5 @@
 -- What was written is read: each part of a right file, and the file.
-use Rattle.std.proofs.Common.{◌≡◌, ℕ, suc, ◌+◌, ◌-◌, ◌*◌, ◌≤◌, true, cond, ◌&&◌, ltb, leb, List, [], ◌∷◌, ◌++◌, length, take, drop, Some, None, Ok, Err, Result, sym, refl, ap, ◌∙◌, arith}
+use Rattle.std.proofs.Common.{◌≡◌, ℕ, suc, ◌+◌, ◌-◌, ◌*◌, ◌≤◌, true, cond, ◌&&◌, nat_lt, nat_le, List, [], ◌∷◌, ◌++◌, length, take, drop, Some, None, Ok, Err, Result, sym, refl, ap, ◌∙◌, arith}
 use Rattle.std.proofs.lemmas.List.{drop_at, length-append, take_at}
 use Rattle.std.proofs.lemmas.Bool.{and_from, and_parts, cond-false, cond-true, le-leb, le-ltb}
 use Rattle.book.specs.Limits.{most_states, tags}
@@ -20,20 +20,20 @@ abbrev pub numbered : ℕ → ℕ → ℕ → Kind → ℕ → Header
 numbered states trees columns kind start = record { states = states; trees = trees; columns = columns; kind = kind; start = start }
 
 pub header_back : (states trees columns : ℕ) (kind : Kind) (start : ℕ) (rest : List ℕ) →
-    between 1 most_states states ≡ true → between 1 most_states trees ≡ true → between 1 tags columns ≡ true → ltb start states ≡ true →
+    between 1 most_states states ≡ true → between 1 most_states trees ≡ true → between 1 tags columns ≡ true → nat_lt start states ≡ true →
     header (83 ∷ 69 ∷ 76 ∷ 1 ∷ 0 ∷ states ∷ trees ∷ columns ∷ kind_byte kind ∷ start ∷ rest)
     ≡ Ok (numbered states trees columns kind start)
 header_back states trees columns kind start rest s t c b =
     let bs : List ℕ = 83 ∷ 69 ∷ 76 ∷ 1 ∷ 0 ∷ states ∷ trees ∷ columns ∷ kind_byte kind ∷ start ∷ rest in
     let long : 10 ≤ length bs = omega arith in
-    cond-false (ltb (length bs) 10) (Err (ShortHeader (length bs))) _ (le-ltb (length bs) 10 long) ∙ numbers kind
+    cond-false (nat_lt (length bs) 10) (Err (ShortHeader (length bs))) _ (le-ltb (length bs) 10 long) ∙ numbers kind
   where
     numbers : (k : Kind) →
         cond {A = Result Header BookFault} (between 1 most_states states)
         (cond (between 1 most_states trees)
         (cond (between 1 tags columns)
-        (cond (leb (kind_byte k) 1)
-        (cond (ltb start states) (Ok (numbered states trees columns (kind_of (kind_byte k)) start))
+        (cond (nat_le (kind_byte k) 1)
+        (cond (nat_lt start states) (Ok (numbered states trees columns (kind_of (kind_byte k)) start))
         (Err (HeaderNumber 9))) (Err (HeaderNumber 8))) (Err (HeaderNumber 7))) (Err (HeaderNumber 6))) (Err (HeaderNumber 5))
         ≡ Ok (numbered states trees columns k start)
     numbers Shape = simp (s, t, c, b)
@@ -43,7 +43,7 @@ header_back states trees columns kind start rest s t c b =
 
 table_back : (bound size at : ℕ) (xs rest : List ℕ) → Filled size bound xs → Ok xs ≡ table_at bound at (take size (xs ++ rest))
 table_back bound size at xs rest f =
-    sym (ap (table_at bound at) (take_at xs rest size f.0) ∙ unless_none (first_off (λ x. ltb x bound) at xs) TableEntry xs (all_none (λ x. ltb x bound) at xs f.1))
+    sym (ap (table_at bound at) (take_at xs rest size f.0) ∙ unless_none (first_off (λ x. nat_lt x bound) at xs) TableEntry xs (all_none (λ x. nat_lt x bound) at xs f.1))
 
 module _ (h : Header) (at : ℕ) (accept enter mark up side rest : List ℕ)
     (accepts : Filled h.states 2 accept) (enters : Filled (entries h) h.states enter) (marks : Filled (mark_size h.kind (entries h)) h.states mark)
@@ -86,15 +86,15 @@ misspelt_none : (at b : ℕ) (bs : List ℕ) → name_start b ≡ true → all n
 misspelt_none at b bs s r = cond-true (name_start b) (first_off name_byte (suc at) bs) (Some at) s ∙ all_none name_byte (suc at) bs r
 
 name_back : (size at : ℕ) (w rest : List ℕ) → right_name w ≡ true → name_at size at (length w ∷ (w ++ rest)) ≡ Ok w
-name_back size at [] rest h = absurd (let z : ◌≡◌ {A = ℕ} 0 1 = cc in omega arith)
+name_back size at [] rest h = cc
 name_back size at (b ∷ bs) rest h =
     let n : ℕ = suc (length bs) in
-    let p = and_parts (name_start b && all name_byte bs) (leb n name_limit) h in
+    let p = and_parts (name_start b && all name_byte bs) (nat_le n name_limit) h in
     let q = and_parts (name_start b) (all name_byte bs) p.0 in
     let some : 1 ≤ n = omega arith in
     let whole : n ≤ length ((b ∷ bs) ++ rest) = simp length-append (omega arith) in
-    cond-true (between 1 name_limit n) _ _ (and_from (leb 1 n) (leb n name_limit) (le-leb 1 n some) p.1)
-    ∙ cond-true (leb n (length ((b ∷ bs) ++ rest))) _ _ (le-leb n (length ((b ∷ bs) ++ rest)) whole)
+    cond-true (between 1 name_limit n) _ _ (and_from (nat_le 1 n) (nat_le n name_limit) (le-leb 1 n some) p.1)
+    ∙ cond-true (nat_le n (length ((b ∷ bs) ++ rest))) _ _ (le-leb n (length ((b ∷ bs) ++ rest)) whole)
     ∙ ap (λ v. unless (misspelt (suc at) v) NameByte v) (take_at (b ∷ bs) rest n refl)
     ∙ unless_none (misspelt (suc at) (b ∷ bs)) NameByte (b ∷ bs) (misspelt_none (suc at) b bs q.0 q.1)
 

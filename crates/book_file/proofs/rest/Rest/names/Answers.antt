@@ -4,15 +4,6 @@ use Rattle.book_file.specs.Files.{name_at, names_at}
 use Rattle.book_file.proofs.NamesRead.{behind, behind_none, names_finish, names_more, names_passed, names_stop}
 use Rattle.book_file.proofs.rest.Rest.names.Goals as goal
 
-pub names-init : goal.names-init
-names-init c =
-    let s = c.args.self.now in
-    let size = s.at + length s.bytes.now in
-    let all : c.args.count ≡ c.args.count - 0 = omega arith in (
-      ([], behind_none (names_at size c.args.count s.at s.bytes.now) ∙ ap (λ n. behind [] (names_at size n s.at s.bytes.now)) all),
-      refl,
-    )
-
 pub returns-in_err-_name : goal.returns-in_err-_name
 returns-in_err-_name c =
     let s = c.names.self in
