@@ -12,7 +12,7 @@ use Rattle.book_file.specs.declared.header.Kind.TheVariants.{Selecting, Shape}
 use Rattle.book_file.specs.Files.{File, Filled, Right, bytes_of, entries, first_off, header, kind_byte, kind_of, mark_size, misspelt, name_at, names_at, names_bytes, reading, right_names, table_at, tables_at, tables_size, then, unless}
 use Rattle.book_file.proofs.FileRead.{file_read}
 use Rattle.book_file.proofs.FirstOff.{all_none, unless_none}
-use Rattle.book_file.proofs.TablesRead as read
+use Rattle.book_file.proofs.TablesRead.{tables_behind}
 
 -- The header ------------------------------------------------------------------------------------------------------
 
@@ -41,9 +41,9 @@ header_back states trees columns kind start rest s t c b =
 
 -- The tables ------------------------------------------------------------------------------------------------------
 
-table_back : (bound size at : ℕ) (xs rest : List ℕ) → Filled size bound xs → Ok xs ≡ table_at bound at (take size (xs ++ rest))
+table_back : (bound size at : ℕ) (xs rest : List ℕ) → Filled size bound xs → table_at bound at (take size (xs ++ rest)) ≡ Ok xs
 table_back bound size at xs rest f =
-    sym (ap (table_at bound at) (take_at xs rest size f.0) ∙ unless_none (first_off (λ x. nat_lt x bound) at xs) TableEntry xs (all_none (λ x. nat_lt x bound) at xs f.1))
+    ap (table_at bound at) (take_at xs rest size f.0) ∙ unless_none (first_off (λ x. nat_lt x bound) at xs) TableEntry xs (all_none (λ x. nat_lt x bound) at xs f.1)
 
 module _ (h : Header) (at : ℕ) (accept enter mark up side rest : List ℕ)
     (accepts : Filled h.states 2 accept) (enters : Filled (entries h) h.states enter) (marks : Filled (mark_size h.kind (entries h)) h.states mark)
@@ -52,30 +52,37 @@ module _ (h : Header) (at : ℕ) (accept enter mark up side rest : List ℕ)
     abbrev bs : List ℕ
     bs = accept ++ (enter ++ (mark ++ (up ++ (side ++ rest))))
 
-    abbrev S : ℕ
-    S = h.states
+    behind_accept : drop h.states bs ≡ enter ++ (mark ++ (up ++ (side ++ rest)))
+    behind_accept = drop_at accept _ h.states accepts.0
 
-    abbrev E : ℕ
-    E = entries h
+    behind_enter : drop (entries h) (enter ++ (mark ++ (up ++ (side ++ rest)))) ≡ mark ++ (up ++ (side ++ rest))
+    behind_enter = drop_at enter _ (entries h) enters.0
 
-    abbrev M : ℕ
-    M = mark_size h.kind (entries h)
+    behind_mark : drop (mark_size h.kind (entries h)) (mark ++ (up ++ (side ++ rest))) ≡ up ++ (side ++ rest)
+    behind_mark = drop_at mark _ (mark_size h.kind (entries h)) marks.0
 
-    pub tables_back : Ok (record { accept = accept; enter = enter; mark = mark; up = up; side = side }) ≡ tables_at h at bs
+    behind_up : drop (entries h) (up ++ (side ++ rest)) ≡ side ++ rest
+    behind_up = drop_at up _ (entries h) ups.0
+
+    pub tables_back : tables_at h at bs ≡ Ok (record { accept = accept; enter = enter; mark = mark; up = up; side = side })
     tables_back =
-        read.tables_read h at bs S E M E (S * h.trees) refl refl refl refl refl (at + S) (at + S + E) (at + S + E + M) (at + S + E + M + E)
-        (enter ++ (mark ++ (up ++ (side ++ rest)))) (mark ++ (up ++ (side ++ rest))) (up ++ (side ++ rest)) (side ++ rest)
-        refl (sym (drop_at accept _ S accepts.0)) refl (sym (drop_at enter _ E enters.0)) refl (sym (drop_at mark _ M marks.0)) refl (sym (drop_at up _ E ups.0))
-        accept enter mark up side
-        (table_back 2 S at accept _ accepts) (table_back S E (at + S) enter _ enters) (table_back S M (at + S + E) mark _ marks)
-        (table_back h.trees E (at + S + E + M) up _ ups) (table_back S (S * h.trees) (at + S + E + M + E) side rest sides)
+        let S : ℕ = h.states in
+        let E : ℕ = entries h in
+        let M : ℕ = mark_size h.kind (entries h) in
+        simp (
+          behind_accept,
+          behind_enter,
+          behind_mark,
+          behind_up,
+          table_back 2 S at accept (enter ++ (mark ++ (up ++ (side ++ rest)))) accepts,
+          table_back S E (at + S) enter (mark ++ (up ++ (side ++ rest))) enters,
+          table_back S M (at + S + E) mark (up ++ (side ++ rest)) marks,
+          table_back h.trees E (at + S + E + M) up (side ++ rest) ups,
+          table_back S (S * h.trees) (at + S + E + M + E) side rest sides,
+        )
 
-    pub behind_back : rest ≡ drop (tables_size h) bs
-    behind_back =
-        (read.tables_behind h at bs S E M E (S * h.trees) refl refl refl refl refl (at + S) (at + S + E) (at + S + E + M) (at + S + E + M + E)
-        (enter ++ (mark ++ (up ++ (side ++ rest)))) (mark ++ (up ++ (side ++ rest))) (up ++ (side ++ rest)) (side ++ rest)
-        refl (sym (drop_at accept _ S accepts.0)) refl (sym (drop_at enter _ E enters.0)) refl (sym (drop_at mark _ M marks.0)) refl (sym (drop_at up _ E ups.0))
-        (at + S + E + M + E + S * h.trees) rest refl (sym (drop_at side rest (S * h.trees) sides.0))).0
+    pub behind_back : drop (tables_size h) bs ≡ rest
+    behind_back = sym (tables_behind h bs) ∙ simp (behind_accept, behind_enter, behind_mark, behind_up, drop_at side rest (h.states * h.trees) sides.0)
 
     pub length_back : length bs ≡ tables_size h + length rest
     length_back = simp length-append (omega (arith, accepts.0, enters.0, marks.0, ups.0, sides.0))
@@ -122,7 +129,7 @@ read_back f r =
     sym
     (file_read bs h (sym (header_back t.states t.trees t.columns f.kind t.start body r.states r.trees r.columns r.start)) whole
     (record { accept = t.accept; enter = t.enter; mark = f.mark; up = t.up; side = t.side })
-    (tables_back h 10 t.accept t.enter f.mark t.up t.side rest r.accept r.enter r.mark r.up r.side)
+    (sym (tables_back h 10 t.accept t.enter f.mark t.up t.side rest r.accept r.enter r.mark r.up r.side))
     (10 + tables_size h) rest refl
-    (behind_back h 10 t.accept t.enter f.mark t.up t.side rest r.accept r.enter r.mark r.up r.side)
+    (sym (behind_back h 10 t.accept t.enter f.mark t.up t.side rest r.accept r.enter r.mark r.up r.side))
     f.names (sym (ap (λ n. names_at (10 + tables_size h + length rest) n (10 + tables_size h) rest) (sym count) ∙ names_back (10 + tables_size h + length rest) (10 + tables_size h) f.names r.names)))

@@ -1,7 +1,7 @@
-use Rattle.std.proofs.Common.{◌≡◌, ◌+◌, ◌-◌, [], ◌∷◌, ◌++◌, length, sym, refl, ap, ◌∙◌, arith}
+use Rattle.std.proofs.Common.{◌+◌, [], ◌∷◌, ◌++◌, length, sym, ap, ◌∙◌}
 use Rattle.std.proofs.lemmas.Result.{err_from_is_err_and}
-use Rattle.book_file.specs.Files.{name_at, names_at}
-use Rattle.book_file.proofs.NamesRead.{behind, behind_none, names_finish, names_more, names_passed, names_stop}
+use Rattle.book_file.specs.Files.{name_at}
+use Rattle.book_file.proofs.NamesRead.{names_finish, names_more, names_passed, names_stop}
 use Rattle.book_file.proofs.rest.Rest.names.Goals as goal
 
 pub returns-in_err-_name : goal.returns-in_err-_name
