@@ -152,10 +152,11 @@ impl<'a> ShapeBook for SelectingTableBook<'a> {
 impl<'a> SelectingBook for SelectingTableBook<'a> {
     ghost use Rattle.book_file.specs.Books.{tables_in};
     ghost use Rattle.book_file.specs.Table.{table_marks};
+    ghost use Rattle.book_file.specs.Ranges.{table_marked};
 
     ghost marks = { λ b. table_marks (tables_in b.shape) b.mark.now };
 
-    fn marked(&self) {}
+    ghost lawful_marks = { λ b. table_marked (tables_in b.shape) b.mark.now b.marks };
 
     fn mark(&self, state: u16, tag: u8) -> u16 {
         self.shape.answer(self.mark, state, tag)
