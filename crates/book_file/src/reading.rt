@@ -1,12 +1,11 @@
 // Reading a book file from its bytes.
-ghost use Rattle.std.specs.Prelude.{◌≡◌, ℕ, suc, ◌+◌, ◌*◌, ◌^◌, ◌<◌, ◌≤◌, true, cond, [], length, take, drop, slice_index, Ok, Err, IfOk, OnOk};
+ghost use Rattle.std.specs.Prelude.{◌≡◌, ◌<◌, cond, length, slice_index, Ok, Err, IfOk};
 ghost use Rattle.book.specs.declared.fault.BookFault.TheVariants.{HeaderNumber};
 ghost use Rattle.name_bytes.specs.Names.{between};
-ghost use Rattle.book_file.specs.Files.{entries, file_with, header, mark_size, misspelt, name_at, names_at, parted, passed, reading, table_at, tables_at, tables_size};
+ghost use Rattle.book_file.specs.Files.{file_with, header, reading};
 ghost use Rattle.book_file.specs.Laws.{WrittenOnce};
-ghost use Rattle.book_file.specs.Names.{listed, unpacked};
-ghost use Rattle.book_file.specs.Parts.{HeaderFits, TablesFilled, file_of, read_file, rows_of, tables_of};
-ghost use Rattle.book_file.specs.Table.{below};
+ghost use Rattle.book_file.specs.Names.{listed};
+ghost use Rattle.book_file.specs.Parts.{HeaderFits, TablesFilled, file_of, read_file, rows_of};
 
 use crate::file::{BookFile, NamedBook};
 use crate::header::{Header, Kind};
