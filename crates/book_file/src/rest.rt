@@ -108,12 +108,11 @@ impl<'a> Rest<'a> {
         if length < 1 || length > NAME_LIMIT {
             return Err(BookFault::NameByte { at });
         }
-        if length > rest.len() {
+        let Some((name, rest)) = rest.split_at_checked(length) else {
             return Err(BookFault::CutOff {
                 length: self.size(),
             });
-        }
-        let (name, rest) = rest.split_at(length);
+        };
         if let Some(at) = first_bad_byte(name, at + 1) {
             return Err(BookFault::NameByte { at });
         }
