@@ -1,11 +1,8 @@
-mod Entries
 mod FileRead
-mod Filled
 mod FirstOff
 mod NamesRead
 mod ReadBack
-mod RightFilled
 mod TablesRead
-mod Unpacked
+mod Placed
 mod WasWritten
 mod Written

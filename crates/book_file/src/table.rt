@@ -1,23 +1,23 @@
 // Books that answer from the tables of a file, in the file's own bytes.
 ghost use Rattle.std.specs.Prelude.{◌≡◌, ◌+◌, ◌-◌, ◌*◌, ◌<◌, ◌≤◌, true, length};
 ghost use Rattle.book.specs.Limits.{most_states};
-ghost use Rattle.book_file.specs.Table.{below, column, entry, table, table_lawful, table_machine, table_marks, table_marked};
+ghost use Rattle.book_file.specs.Table.{below, column, entry};
 
 use book::limits::TAGS;
 use book::selecting_book::SelectingBook;
 use book::shape_book::ShapeBook;
 
 // A shape book.
-#[derive(Drop)]
+#[derive(Clone, Copy)]
 pub struct TableBook<'a> {
-    pub(crate) states: u16,
-    pub(crate) trees: u16,
-    pub(crate) columns: u8,
-    pub(crate) start: u16,
-    pub(crate) accept: &'a [u8],
-    pub(crate) enter: &'a [u8],
-    pub(crate) up: &'a [u8],
-    pub(crate) side: &'a [u8],
+    pub states: u16,
+    pub trees: u16,
+    pub columns: u8,
+    pub start: u16,
+    pub accept: &'a [u8],
+    pub enter: &'a [u8],
+    pub up: &'a [u8],
+    pub side: &'a [u8],
     ghost narrow: { states ≤ most_states },
     ghost starts: { start ≤ states - 1 },
     ghost some: { 1 ≤ columns },
@@ -31,24 +31,39 @@ pub struct TableBook<'a> {
 }
 
 // A selecting book: the same with a table for `mark`.
-#[derive(Drop)]
+#[derive(Clone, Copy)]
 pub struct SelectingTableBook<'a> {
-    pub(crate) shape: TableBook<'a>,
-    pub(crate) mark: &'a [u8],
+    pub shape: TableBook<'a>,
+    pub mark: &'a [u8],
     ghost mark_whole: { length mark.now ≡ shape.states * shape.columns },
     ghost marks: { below shape.states mark.now ≡ true },
 }
 
 impl<'a> TableBook<'a> {
+    ghost use Rattle.book_file.specs.Books.{tables_in};
+    ghost use Rattle.book_file.specs.Table.{table_marks};
+
     // The entry of a table in the row of a state and the column of a tag: a tag that the file does not list has column 0.
+    // The place is computed, since the book answers from the file's own bytes, where row stands behind row.
     fn at_tag(&self, rows: &[u8], state: u16, tag: u8) -> u16
         requires state_lt_states { state < self.now.states }
         requires rows_len { length rows.now ≡ self.now.states * self.now.columns }
         ensures { result ≡ entry rows.now self.now.columns state (column self.now.columns tag) }
     {
-        let listed = tag < self.columns;
-        let place = if listed { tag } else { 0 };
-        u16::from(rows[state as usize * self.columns as usize + place as usize])
+        let column = if tag < self.columns { tag } else { 0 };
+        u16::from(rows[usize::from(state) * usize::from(self.columns) + usize::from(column)])
+    }
+
+    // The same for any state and any tag: 0 where one is out of range.
+    fn answer(&self, rows: &[u8], state: u16, tag: u8) -> u16
+        requires { length rows.now ≡ self.now.states * self.now.columns }
+        ensures { result ≡ table_marks (tables_in self.now) rows.now state tag }
+    {
+        if state < self.states && tag < TAGS {
+            self.at_tag(rows, state, tag)
+        } else {
+            0
+        }
     }
 
     // The tree state of an item that closes.
@@ -66,14 +81,18 @@ impl<'a> TableBook<'a> {
         requires tree_lt_trees { tree < self.now.trees }
         ensures { result ≡ entry self.now.side.now self.now.trees outer tree }
     {
-        u16::from(self.side[outer as usize * self.trees as usize + tree as usize])
+        u16::from(self.side[usize::from(outer) * usize::from(self.trees) + usize::from(tree)])
     }
 }
 
 impl<'a> ShapeBook for TableBook<'a> {
-    ghost machine = { λ b. table_machine (table b.states b.trees b.columns b.start b.accept.now b.enter.now b.up.now b.side.now) };
+    ghost use Rattle.book_file.specs.Books.{tables_in};
+    ghost use Rattle.book_file.specs.Table.{table_machine};
+    ghost use Rattle.book_file.specs.Ranges.{table_lawful};
 
-    ghost lawful = { λ b. table_lawful (table b.states b.trees b.columns b.start b.accept.now b.enter.now b.up.now b.side.now) b.narrow b.starts b.enters b.sides };
+    ghost machine = { λ b. table_machine (tables_in b) };
+
+    ghost lawful = { λ b. table_lawful (tables_in b) b.narrow b.starts b.enters b.sides };
 
     fn width(&self) -> u16 {
         self.states
@@ -84,11 +103,7 @@ impl<'a> ShapeBook for TableBook<'a> {
     }
 
     fn enter(&self, state: u16, tag: u8) -> u16 {
-        if state < self.states && tag < TAGS {
-            self.at_tag(self.enter, state, tag)
-        } else {
-            0
-        }
+        self.answer(self.enter, state, tag)
     }
 
     fn back(&self, outer: u16, inner: u16, tag: u8) -> u16 {
@@ -100,14 +115,19 @@ impl<'a> ShapeBook for TableBook<'a> {
     }
 
     fn accepts(&self, state: u16) -> bool {
-        state < self.states && self.accept[state as usize] == 1
+        state < self.states && self.accept[usize::from(state)] == 1
     }
 }
 
+// It answers these questions as its shape book does; the language has no shorter way to say that of each method.
 impl<'a> ShapeBook for SelectingTableBook<'a> {
-    ghost machine = { λ b. table_machine (table b.shape.states b.shape.trees b.shape.columns b.shape.start b.shape.accept.now b.shape.enter.now b.shape.up.now b.shape.side.now) };
+    ghost use Rattle.book_file.specs.Books.{tables_in};
+    ghost use Rattle.book_file.specs.Table.{table_machine};
+    ghost use Rattle.book_file.specs.Ranges.{table_lawful};
 
-    ghost lawful = { λ b. table_lawful (table b.shape.states b.shape.trees b.shape.columns b.shape.start b.shape.accept.now b.shape.enter.now b.shape.up.now b.shape.side.now) b.shape.narrow b.shape.starts b.shape.enters b.shape.sides };
+    ghost machine = { λ b. table_machine (tables_in b.shape) };
+
+    ghost lawful = { λ b. table_lawful (tables_in b.shape) b.shape.narrow b.shape.starts b.shape.enters b.shape.sides };
 
     fn width(&self) -> u16 {
         self.shape.width()
@@ -131,15 +151,15 @@ impl<'a> ShapeBook for SelectingTableBook<'a> {
 }
 
 impl<'a> SelectingBook for SelectingTableBook<'a> {
-    ghost marks = { λ b. table_marks (table b.shape.states b.shape.trees b.shape.columns b.shape.start b.shape.accept.now b.shape.enter.now b.shape.up.now b.shape.side.now) b.mark.now };
+    ghost use Rattle.book_file.specs.Books.{tables_in};
+    ghost use Rattle.book_file.specs.Table.{table_marks};
+    ghost use Rattle.book_file.specs.Ranges.{table_marked};
 
-    ghost lawful_marks = { λ b. table_marked (table b.shape.states b.shape.trees b.shape.columns b.shape.start b.shape.accept.now b.shape.enter.now b.shape.up.now b.shape.side.now) b.mark.now b.marks };
+    ghost marks = { λ b. table_marks (tables_in b.shape) b.mark.now };
+
+    ghost lawful_marks = { λ b. table_marked (tables_in b.shape) b.mark.now b.marks };
 
     fn mark(&self, state: u16, tag: u8) -> u16 {
-        if state < self.shape.states && tag < TAGS {
-            self.shape.at_tag(self.mark, state, tag)
-        } else {
-            0
-        }
+        self.shape.answer(self.mark, state, tag)
     }
 }

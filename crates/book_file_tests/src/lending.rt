@@ -18,8 +18,8 @@ pub fn width_and_clear(bytes: &mut [u8]) -> u16
         }
         _ => 0,
     };
-    if bytes.len() > 0 {
-        bytes[0] = 0;
+    if let Some(first) = bytes.first_mut() {
+        *first = 0;
     }
     width
 }
