@@ -1,32 +1,28 @@
--- Looking for the first byte that fails a test, byte by byte.
-use Rattle.std.proofs.Common.{◌≡◌, ℕ, suc, ◌+◌, ◌<◌, ◌≤◌, Bool, true, false, cond, ◌&&◌, List, [], ◌∷◌, length, get_or, drop, Some, None, Ok, Option, refl, ap, ◌∙◌, arith}
-use Rattle.std.proofs.lemmas.List.{at_drop_all, at_drop_more}
-use Rattle.std.proofs.lemmas.Bool.{and_from, and_parts, cond-false, cond-true}
+-- Looking for the first byte that fails a test.
+use Rattle.std.proofs.Common.{◌≡◌, ℕ, suc, ◌+◌, Bool, true, false, not, cond, ◌&&◌, List, [], ◌∷◌, Some, None, Ok, Option, sym, refl, ap, ◌∙◌, arith}
+use Rattle.std.specs.Option.{option_map}
+use Rattle.std.specs.List.{position, position_from}
+use Rattle.std.proofs.lemmas.Bool.{and_from, and_parts, cond-true}
+use Rattle.std.proofs.lemmas.Iterator.Adapters.{position_from-zero}
 use Rattle.name_bytes.specs.Names.{all}
 use Rattle.book.specs.declared.fault.BookFault.{BookFault}
 use Rattle.book_file.specs.Files.{first_off, unless}
 
--- what is left of the search at an index
-abbrev pub off_from : (ℕ → Bool) → ℕ → List ℕ → ℕ → Option ℕ
-off_from test at xs i = first_off test (at + i) (drop i xs)
+module _ (test off : ℕ → Bool) (other : (x : ℕ) → off x ≡ not (test x)) where
+  searched : (at i : ℕ) (xs : List ℕ) → first_off test (at + i) xs ≡ option_map (λ k. at + k) (position_from off i xs)
+  searched at i [] = refl
+  searched at i (x ∷ xs) = go (test x) refl (searched at (i + 1) xs)
+    where
+      go : (b : Bool) → test x ≡ b → first_off test (at + (i + 1)) xs ≡ option_map (λ k. at + k) (position_from off (i + 1) xs) →
+          cond (test x) (first_off test (suc (at + i)) xs) (Some (at + i)) ≡ option_map (λ k. at + k) (cond (off x) (Some i) (position_from off (i + 1) xs))
+      go true e rest = let next : suc (at + i) ≡ at + (i + 1) = omega arith in rw (other x, e, next) rest
+      go false e rest = rw (other x, e) refl
 
-pub off_start : (test : ℕ → Bool) (at : ℕ) (xs : List ℕ) → first_off test at xs ≡ off_from test at xs 0
-off_start test at xs = let e : at ≡ at + 0 = omega arith in ap (λ n. first_off test n xs) e
-
-step : (test : ℕ → Bool) (at : ℕ) (xs : List ℕ) (i : ℕ) → i < length xs →
-    off_from test at xs i ≡ cond (test (get_or xs i 0)) (first_off test (suc (at + i)) (drop (i + 1) xs)) (Some (at + i))
-step test at xs i l = at_drop_more (first_off test (at + i)) xs i 0 l
-
-pub off_passes : (test : ℕ → Bool) (at : ℕ) (xs : List ℕ) (i : ℕ) → i < length xs → test (get_or xs i 0) ≡ true → off_from test at xs i ≡ off_from test at xs (i + 1)
-off_passes test at xs i l t =
-    let e : suc (at + i) ≡ at + (i + 1) = omega arith in
-    step test at xs i l ∙ cond-true (test (get_or xs i 0)) _ _ t ∙ ap (λ n. first_off test n (drop (i + 1) xs)) e
-
-pub off_fails : (test : ℕ → Bool) (at : ℕ) (xs : List ℕ) (i : ℕ) → i < length xs → test (get_or xs i 0) ≡ false → off_from test at xs i ≡ Some (at + i)
-off_fails test at xs i l t = step test at xs i l ∙ cond-false (test (get_or xs i 0)) _ _ t
-
-pub off_ends : (test : ℕ → Bool) (at : ℕ) (xs : List ℕ) (i : ℕ) → length xs ≤ i → off_from test at xs i ≡ None
-off_ends test at xs i l = at_drop_all (first_off test (at + i)) xs i l
+  -- the first that fails is the first at which the opposite test passes
+  pub off_at : (at : ℕ) (xs : List ℕ) (place : Option ℕ) → place ≡ position off xs → first_off test at xs ≡ option_map (λ k. at + k) place
+  off_at at xs place e =
+      let zero : at ≡ at + 0 = omega arith in
+      ap (λ n. first_off test n xs) zero ∙ searched at 0 xs ∙ ap (option_map (λ k. at + k)) (sym (e ∙ position_from-zero off xs))
 
 -- nothing fails just if all pass
 pub none_all : (test : ℕ → Bool) (at : ℕ) (xs : List ℕ) → first_off test at xs ≡ None → all test xs ≡ true
@@ -35,7 +31,7 @@ none_all test at (x ∷ xs) h = go (test x) refl h (none_all test (suc at) xs)
   where
     go : (b : Bool) → test x ≡ b → cond b (first_off test (suc at) xs) (Some at) ≡ None → (first_off test (suc at) xs ≡ None → all test xs ≡ true) → (test x && all test xs) ≡ true
     go true e k rest = and_from (test x) (all test xs) e (rest k)
-    go false e k rest = absurd (let z : ◌≡◌ {A = ℕ} 0 1 = cc in omega arith)
+    go false e k rest = cc
 
 pub all_none : (test : ℕ → Bool) (at : ℕ) (xs : List ℕ) → all test xs ≡ true → first_off test at xs ≡ None
 all_none test at [] h = refl

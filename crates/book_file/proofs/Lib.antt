@@ -1,11 +1,10 @@
 mod Entries
 mod FileRead
-mod Filled
 mod FirstOff
 mod NamesRead
 mod ReadBack
-mod RightFilled
 mod TablesRead
+mod Placed
 mod Unpacked
 mod WasWritten
 mod Written

@@ -63,7 +63,7 @@ module _ (h : Header) (at : ℕ) (accept enter mark up side rest : List ℕ)
 
     pub tables_back : Ok (record { accept = accept; enter = enter; mark = mark; up = up; side = side }) ≡ tables_at h at bs
     tables_back =
-        read.tables_read h at bs M refl (at + S) (at + S + E) (at + S + E + M) (at + S + E + M + E)
+        read.tables_read h at bs S E M E (S * h.trees) refl refl refl refl refl (at + S) (at + S + E) (at + S + E + M) (at + S + E + M + E)
         (enter ++ (mark ++ (up ++ (side ++ rest)))) (mark ++ (up ++ (side ++ rest))) (up ++ (side ++ rest)) (side ++ rest)
         refl (sym (drop_at accept _ S accepts.0)) refl (sym (drop_at enter _ E enters.0)) refl (sym (drop_at mark _ M marks.0)) refl (sym (drop_at up _ E ups.0))
         accept enter mark up side
@@ -72,7 +72,7 @@ module _ (h : Header) (at : ℕ) (accept enter mark up side rest : List ℕ)
 
     pub behind_back : rest ≡ drop (tables_size h) bs
     behind_back =
-        (read.tables_behind h at bs M refl (at + S) (at + S + E) (at + S + E + M) (at + S + E + M + E)
+        (read.tables_behind h at bs S E M E (S * h.trees) refl refl refl refl refl (at + S) (at + S + E) (at + S + E + M) (at + S + E + M + E)
         (enter ++ (mark ++ (up ++ (side ++ rest)))) (mark ++ (up ++ (side ++ rest))) (up ++ (side ++ rest)) (side ++ rest)
         refl (sym (drop_at accept _ S accepts.0)) refl (sym (drop_at enter _ E enters.0)) refl (sym (drop_at mark _ M marks.0)) refl (sym (drop_at up _ E ups.0))
         (at + S + E + M + E + S * h.trees) rest refl (sym (drop_at side rest (S * h.trees) sides.0))).0

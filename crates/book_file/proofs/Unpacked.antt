@@ -1,4 +1,4 @@
--- Names that are packed, taken one after another.
+-- Names that are packed, and where one of them stands.
 use Rattle.std.proofs.Common.{◌≡◌, ℕ, zero, suc, ◌+◌, ◌-◌, ◌<◌, ◌≤◌, min, Bool, true, false, cond, ◌⊎◌, List, [], ◌∷◌, length, get_or, take, drop, sym, refl, ap, ◌∙◌, inl, inr, ⊎_elim, arith}
 use Rattle.std.proofs.lemmas.Slice.Eq.{bytes_eq-Decides}
 use Rattle.std.proofs.lemmas.List.{drop_all, take_all}
@@ -20,26 +20,6 @@ drop_min n xs =
     ⊎_elim (λ l. let e : min (length xs) n ≡ n = omega arith in ap (λ k. drop k xs) e)
     (λ l. let e : min (length xs) n ≡ length xs = omega arith in
     ap (λ k. drop k xs) e ∙ drop_all (length xs) xs (omega arith) ∙ sym (drop_all n xs l)) (cases_lt n (length xs))
-
-pub unpacked_start : (count : ℕ) (bs : List ℕ) → unpacked count bs ≡ unpacked (count - 0) bs
-unpacked_start count bs = let e : count ≡ count - 0 = omega arith in ap (λ k. unpacked k bs) e
-
-pub unpacked_more : (count before n : ℕ) (rest bs w others : List ℕ) → before < count → rest ≡ n ∷ bs → w ≡ take n bs → others ≡ drop n bs →
-    unpacked (count - before) rest ≡ w ∷ unpacked (count - (before + 1)) others
-unpacked_more count before n rest bs w others l e p q =
-    let more : count - before ≡ suc (count - (before + 1)) = omega arith in
-    ap (λ k. unpacked k rest) more ∙ ap (unpacked (suc (count - (before + 1)))) e
-    ∙ ap (λ v. v ∷ unpacked (count - (before + 1)) (drop n bs)) (sym p) ∙ ap (λ vs. w ∷ unpacked (count - (before + 1)) vs) (sym q)
-
-pub unpacked_none : (k : ℕ) (rest : List ℕ) → rest ≡ [] → unpacked k rest ≡ []
-unpacked_none k rest e = ap (unpacked k) e ∙ go k
-  where
-    go : (n : ℕ) → unpacked n [] ≡ []
-    go zero = refl
-    go (suc n) = refl
-
-pub unpacked_end : (count before : ℕ) (rest : List ℕ) → count ≤ before → unpacked (count - before) rest ≡ []
-unpacked_end count before rest l = let all : count - before ≡ 0 = omega arith in ap (λ k. unpacked k rest) all
 
 -- The lowest tag --------------------------------------------------------------------------------------------------
 

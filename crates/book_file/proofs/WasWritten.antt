@@ -141,7 +141,7 @@ tables_written h at bs ts l e =
     let w₃ = table_written S M (at + S + E) b₂ v₃.0 k₂ v₃.1 in
     let w₄ = table_written h.trees E (at + S + E + M) b₃ v₄.0 k₃ v₄.1 in
     let w₅ = table_written S T (at + S + E + M + E) b₄ v₅.0 k₄ v₅.1 in
-    let behind = (read.tables_behind h at bs M refl (at + S) (at + S + E) (at + S + E + M) (at + S + E + M + E) b₁ b₂ b₃ b₄ refl refl refl refl refl refl refl refl (at + S + E + M + E + T) (drop T b₄) refl refl).0 in
+    let behind = (read.tables_behind h at bs S E M E T refl refl refl refl refl (at + S) (at + S + E) (at + S + E + M) (at + S + E + M + E) b₁ b₂ b₃ b₄ refl refl refl refl refl refl refl refl (at + S + E + M + E + T) (drop T b₄) refl refl).0 in
     let rows : Rows = record { accept = v₁.0; enter = v₂.0; mark = v₃.0; up = v₄.0; side = v₅.0 } in
     let same : rows ≡ ts = ok_same (Ok rows) rows ts refl v₅.2 in
     subst (λ t. TablesWritten h bs t) same

@@ -90,6 +90,10 @@ kind_of (suc n) = Selecting
 abbrev pub header_of : List ℕ → Header
 header_of bs = record { states = slice_index bs 5; trees = slice_index bs 6; columns = slice_index bs 7; kind = kind_of (slice_index bs 8); start = slice_index bs 9 }
 
+-- the kind that a byte of the header stands for
+abbrev pub kind_read : ℕ → Result Kind BookFault
+kind_read b = cond (nat_le b 1) (Ok (kind_of b)) (Err (HeaderNumber 8))
+
 -- the header: its length, its letters, its version, and then its numbers from the left
 abbrev pub header : List ℕ → Result Header BookFault
 header bs =

@@ -4,4 +4,3 @@ pub mod Laws
 pub mod Names
 pub mod Parts
 pub mod Books
-pub mod Answering

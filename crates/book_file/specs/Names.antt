@@ -1,8 +1,10 @@
 -- What a book file's names say: which tag a name has, and which name a tag has.
 use Rattle.std.specs.Prelude.{◌≡◌, ℕ, zero, suc, ◌-◌, ◌<◌, ◌≤◌, cond, List, [], ◌∷◌, length, take, drop, Some, None, Option, ◌==◌, ◌≢◌, slice_index_or}
 use Rattle.std.specs.Borrow.{Bor}
+use Rattle.std.specs.Option.{option_map}
 use Rattle.std.specs.Str.{bytes_eq}
 use Rattle.book_file.specs.declared.names.Names.{Names}
+use Rattle.book_file.specs.declared.names.Words.{Words}
 
 -- so many names, each behind its length
 abbrev pub unpacked : ℕ → List ℕ → List (List ℕ)
@@ -14,10 +16,9 @@ unpacked (suc count) (n ∷ bs) = take n bs ∷ unpacked count (drop n bs)
 abbrev pub listed : Names → List (List ℕ)
 listed n = unpacked n.count n.packed.now
 
--- the first name and the bytes behind it
-abbrev pub FirstName : List ℕ → Option (Bor (List ℕ) × Bor (List ℕ)) → Type 0
-FirstName bs None = bs ≡ []
-FirstName bs (Some p) = (n : ℕ) × (rest : List ℕ) × (bs ≡ n ∷ rest) × (p.0.now ≡ take n rest) × (p.1.now ≡ drop n rest)
+-- those that are still to come
+abbrev pub words_left : Words → List (List ℕ)
+words_left w = listed w.0
 
 -- of names that begin with that of a tag, the lowest tag with the same bytes, else 0
 abbrev pub lowest : ℕ → List (List ℕ) → List ℕ → ℕ
@@ -42,5 +43,4 @@ abbrev pub name_of : List (List ℕ) → ℕ → Option (List ℕ)
 name_of names tag = named 1 names tag
 
 abbrev pub spelt : Option (Bor (List ℕ)) → Option (List ℕ)
-spelt None = None
-spelt (Some r) = Some r.now
+spelt name = option_map (λ r. r.now) name

@@ -1,15 +1,15 @@
 -- The parts of a file that were read, as what they hold.
-use Rattle.std.specs.Prelude.{◌*◌, [], Ok, Err, Result}
+use Rattle.std.specs.Prelude.{◌-◌, ◌*◌, ◌≤◌, [], Ok, Err, Result}
+use Rattle.book.specs.Limits.{most_states, tags}
 use Rattle.book.specs.declared.fault.BookFault.{BookFault}
 use Rattle.book_file.specs.declared.header.Header.{Header}
-use Rattle.book_file.specs.declared.reading.Tables.{Tables}
+use Rattle.book_file.specs.declared.rest.Tables.{Tables}
 use Rattle.book_file.specs.declared.file.BookFile.{BookFile}
 use Rattle.book_file.specs.declared.file.BookFile.TheVariants.{Selecting, Shape}
-use Rattle.book_file.specs.declared.file.ShapeFile.{ShapeFile}
 use Rattle.book_file.specs.declared.header.Kind.TheVariants as Kind
+use Rattle.book_file.specs.Books.{tables_in}
 use Rattle.book_file.specs.Files.{File, Filled, Rows, entries, file, mark_size}
 use Rattle.book_file.specs.Names.{listed}
-use Rattle.book_file.specs.Table.{Table, table}
 
 abbrev pub rows_of : Tables → Rows
 rows_of t = record { accept = t.accept.now; enter = t.enter.now; mark = t.mark.now; up = t.up.now; side = t.side.now }
@@ -17,6 +17,13 @@ rows_of t = record { accept = t.accept.now; enter = t.enter.now; mark = t.mark.n
 abbrev pub tables_of : Result Tables BookFault → Result Rows BookFault
 tables_of (Ok t) = Ok (rows_of t)
 tables_of (Err e) = Err e
+
+-- the numbers of a header are in the ranges that a book asks for
+pub record HeaderFits (h : Header) : Type 0 where
+  pub narrow : h.states ≤ most_states
+  pub starts : h.start ≤ h.states - 1
+  pub some : 1 ≤ h.columns
+  pub few : h.columns ≤ tags
 
 -- each table has its size, and entries below its bound
 pub record TablesFilled (h : Header) (t : Tables) : Type 0 where
@@ -27,12 +34,9 @@ pub record TablesFilled (h : Header) (t : Tables) : Type 0 where
   pub side : Filled (h.states * h.trees) h.states t.side.now
 
 -- what a file holds that was read
-abbrev pub shape_tables : ShapeFile → Table
-shape_tables s = table s.states s.trees s.columns s.start s.accept.now s.enter.now s.up.now s.side.now
-
 abbrev pub file_of : BookFile → File
-file_of (Shape s) = file Kind.Shape (shape_tables s) [] (listed s.names)
-file_of (Selecting s) = file Kind.Selecting (shape_tables s.shape) s.mark.now (listed s.shape.names)
+file_of (Shape s) = file Kind.Shape (tables_in s.book) [] (listed s.names)
+file_of (Selecting s) = file Kind.Selecting (tables_in s.book.shape) s.book.mark.now (listed s.names)
 
 abbrev pub read_file : Result BookFile BookFault → Result File BookFault
 read_file (Ok b) = Ok (file_of b)

@@ -86,16 +86,3 @@ table_marked b mark marks =
       marks = λ s t. cond_within (nat_lt s b.states && nat_lt t tags) _ (b.states - 1) (slice_index_below b.states mark (s * b.columns + column b.columns t) marks);
       no_mark = λ s t out. cond-false (nat_lt s b.states && nat_lt t tags) _ 0 (asked_out b.states s t out);
     }
-
--- Whole tables ----------------------------------------------------------------------------------------------------
-
--- tables of the right sizes, with entries in their ranges
-abbrev pub filled : Table → Bool
-filled b =
-    nat_le b.states most_states && (nat_lt b.start b.states && (nat_le 1 b.columns
-    && (length b.accept == b.states && (length b.enter == b.states * b.columns && (length b.up == b.states * b.columns && (length b.side == b.states * b.trees
-    && (below b.states b.enter && (below b.trees b.up && below b.states b.side))))))))
-
--- no states at all
-abbrev pub no_table : Table
-no_table = table 0 0 1 0 [] [] [] []

@@ -1,30 +1,34 @@
-// What a book file holds, as the parts of the file itself.
-use crate::names::Names;
+// What a book file holds: its book, which answers from the file's own bytes, and the names of its tags.
+ghost use Rattle.std.specs.Prelude.{◌≡◌};
 
-// A file of kind 0: the numbers of its header, its tables and its names.
+use crate::names::Names;
+use crate::table::{SelectingTableBook, TableBook};
+
+// A book and the names of its tags.
 #[derive(Clone, Copy)]
-pub struct ShapeFile<'a> {
-    pub states: u16,
-    pub trees: u16,
-    pub columns: u8,
-    pub start: u16,
-    pub accept: &'a [u8],
-    pub enter: &'a [u8],
-    pub up: &'a [u8],
-    pub side: &'a [u8],
+pub struct NamedBook<'a, B> {
+    pub book: B,
     pub names: Names<'a>,
 }
 
-// A file of kind 1: the same with a table for `mark`.
-#[derive(Clone, Copy)]
-pub struct SelectingFile<'a> {
-    pub shape: ShapeFile<'a>,
-    pub mark: &'a [u8],
-}
+// What a file of kind 0 holds.
+pub type ShapeFile<'a> = NamedBook<'a, TableBook<'a>>;
+
+// What a file of kind 1 holds.
+pub type SelectingFile<'a> = NamedBook<'a, SelectingTableBook<'a>>;
 
 // A file of either kind.
 #[derive(Clone, Copy)]
 pub enum BookFile<'a> {
     Shape(ShapeFile<'a>),
     Selecting(SelectingFile<'a>),
+}
+
+impl<'a, B: Copy> NamedBook<'a, B> {
+    // The book that answers from this file's tables.
+    pub fn book(&self) -> B
+        ensures { result ≡ self.now.book }
+    {
+        self.book
+    }
 }

@@ -1,87 +1,56 @@
 // The names that a book file gives to tags.
-ghost use Rattle.std.specs.Prelude.{◌≡◌, suc, []};
-ghost use Rattle.std.specs.Str.{bytes_eq};
-ghost use Rattle.book_file.specs.Names.{FirstName, LowestTag, listed, name_of, spelt, tag_of, unpacked};
+ghost use Rattle.std.specs.Prelude.{◌≡◌, ◌<◌};
+ghost use Rattle.book.specs.Limits.{tags};
 
 // The part of a file that holds its names, each behind its length; the first is that of tag 1.
 #[derive(Clone, Copy)]
 pub struct Names<'a> {
     pub(crate) packed: &'a [u8],
     pub(crate) count: u8,
+    ghost few: { count < tags },
 }
 
-// The first name of names that are packed, and the names behind it.
-fn split_name<'a>(packed: &'a [u8]) -> Option<(&'a [u8], &'a [u8])>
-    ensures { FirstName packed.now result }
-{
-    let Some((length, rest)) = packed.split_first() else {
-        return None;
-    };
-    let length = rest.len().min(*length as usize);
-    Some(rest.split_at(length))
-}
+// The names one after another.
+#[derive(Drop)]
+struct Words<'a>(Names<'a>);
 
-fn is_same(a: &[u8], b: &[u8]) -> bool
-    ensures { result ≡ bytes_eq a.now b.now }
-{
-    a == b
-}
+impl<'a> Iterator for Words<'a> {
+    ghost use Rattle.std.specs.Iterator.{YieldsFirstRef, at_most};
+    ghost use Rattle.book_file.specs.Names.{words_left};
 
-// The lowest tag of a name, of so many names that are packed and begin with that of tag 1.
-fn find_tag(packed: &[u8], count: u8, name: &[u8]) -> u8
-    ensures { result ≡ tag_of (unpacked count packed.now) name.now }
-{
-    let mut rest = packed;
-    'tags: for before in 0..count {
-        let Some((word, others)) = split_name(rest) else {
-            return 0;
-        };
-        if is_same(word, name) {
-            return before + 1;
-        }
-        rest = others;
+    type Item = &'a [u8];
+
+    ghost next_gives = { YieldsFirstRef words_left };
+
+    ghost remaining = { λ w. at_most w.0.count };
+
+    fn next(&mut self) -> Option<&'a [u8]> {
+        let count = self.0.count.checked_sub(1)?;
+        let (length, rest) = self.0.packed.split_first()?;
+        let (word, packed) = rest.split_at(rest.len().min(usize::from(*length)));
+        self.0 = Names { packed, count };
+        Some(word)
     }
-    0
-}
-
-// The same, with what it says in words.
-fn lowest_tag(packed: &[u8], count: u8, name: &[u8]) -> u8
-    ensures value { result ≡ tag_of (unpacked count packed.now) name.now }
-    ensures lowest { LowestTag (unpacked count packed.now) name.now result }
-{
-    find_tag(packed, count, name)
-}
-
-// The name of a tag, of so many names that are packed.
-fn find_name<'a>(packed: &'a [u8], count: u8, tag: u8) -> Option<&'a [u8]>
-    ensures { spelt result ≡ name_of (unpacked count packed.now) tag }
-{
-    let mut rest = packed;
-    'tags: for before in 0..count {
-        let Some((word, others)) = split_name(rest) else {
-            return None;
-        };
-        if before + 1 == tag {
-            return Some(word);
-        }
-        rest = others;
-    }
-    None
 }
 
 impl<'a> Names<'a> {
+    ghost use Rattle.book_file.specs.Names.{LowestTag, listed, name_of, spelt, tag_of};
+
     // The lowest tag that has this name, or 0 where no tag has it.
     pub fn tag_of(&self, name: &[u8]) -> u8
         ensures value { result ≡ tag_of (listed self.now) name.now }
         ensures lowest { LowestTag (listed self.now) name.now result }
     {
-        lowest_tag(self.packed, self.count, name)
+        Words(*self)
+            .position(|word| word == name)
+            .map_or(0, |before| before as u8 + 1)
     }
 
     // The name of a tag, where it has one.
     pub fn name_of(&self, tag: u8) -> Option<&'a [u8]>
         ensures { spelt result ≡ name_of (listed self.now) tag }
     {
-        find_name(self.packed, self.count, tag)
+        let before = tag.checked_sub(1)?;
+        Words(*self).nth(usize::from(before))
     }
 }

@@ -1,23 +1,23 @@
 // Books that answer from the tables of a file, in the file's own bytes.
 ghost use Rattle.std.specs.Prelude.{◌≡◌, ◌+◌, ◌-◌, ◌*◌, ◌<◌, ◌≤◌, true, length};
 ghost use Rattle.book.specs.Limits.{most_states};
-ghost use Rattle.book_file.specs.Table.{below, column, entry, table, table_lawful, table_machine, table_marks};
+ghost use Rattle.book_file.specs.Table.{below, column, entry};
 
 use book::limits::TAGS;
 use book::selecting_book::SelectingBook;
 use book::shape_book::ShapeBook;
 
 // A shape book.
-#[derive(Drop)]
+#[derive(Clone, Copy)]
 pub struct TableBook<'a> {
-    pub(crate) states: u16,
-    pub(crate) trees: u16,
-    pub(crate) columns: u8,
-    pub(crate) start: u16,
-    pub(crate) accept: &'a [u8],
-    pub(crate) enter: &'a [u8],
-    pub(crate) up: &'a [u8],
-    pub(crate) side: &'a [u8],
+    pub states: u16,
+    pub trees: u16,
+    pub columns: u8,
+    pub start: u16,
+    pub accept: &'a [u8],
+    pub enter: &'a [u8],
+    pub up: &'a [u8],
+    pub side: &'a [u8],
     ghost narrow: { states ≤ most_states },
     ghost starts: { start ≤ states - 1 },
     ghost some: { 1 ≤ columns },
@@ -31,10 +31,10 @@ pub struct TableBook<'a> {
 }
 
 // A selecting book: the same with a table for `mark`.
-#[derive(Drop)]
+#[derive(Clone, Copy)]
 pub struct SelectingTableBook<'a> {
-    pub(crate) shape: TableBook<'a>,
-    pub(crate) mark: &'a [u8],
+    pub shape: TableBook<'a>,
+    pub mark: &'a [u8],
     ghost mark_whole: { length mark.now ≡ shape.states * shape.columns },
     ghost marks: { below shape.states mark.now ≡ true },
 }
@@ -46,9 +46,8 @@ impl<'a> TableBook<'a> {
         requires rows_len { length rows.now ≡ self.now.states * self.now.columns }
         ensures { result ≡ entry rows.now self.now.columns state (column self.now.columns tag) }
     {
-        let listed = tag < self.columns;
-        let place = if listed { tag } else { 0 };
-        u16::from(rows[state as usize * self.columns as usize + place as usize])
+        let column = if tag < self.columns { tag } else { 0 };
+        u16::from(rows[usize::from(state) * usize::from(self.columns) + usize::from(column)])
     }
 
     // The tree state of an item that closes.
@@ -66,14 +65,17 @@ impl<'a> TableBook<'a> {
         requires tree_lt_trees { tree < self.now.trees }
         ensures { result ≡ entry self.now.side.now self.now.trees outer tree }
     {
-        u16::from(self.side[outer as usize * self.trees as usize + tree as usize])
+        u16::from(self.side[usize::from(outer) * usize::from(self.trees) + usize::from(tree)])
     }
 }
 
 impl<'a> ShapeBook for TableBook<'a> {
-    ghost machine = { λ b. table_machine (table b.states b.trees b.columns b.start b.accept.now b.enter.now b.up.now b.side.now) };
+    ghost use Rattle.book_file.specs.Books.{tables_in};
+    ghost use Rattle.book_file.specs.Table.{table_lawful, table_machine};
 
-    ghost lawful = { λ b. table_lawful (table b.states b.trees b.columns b.start b.accept.now b.enter.now b.up.now b.side.now) b.narrow b.starts b.enters b.sides };
+    ghost machine = { λ b. table_machine (tables_in b) };
+
+    ghost lawful = { λ b. table_lawful (tables_in b) b.narrow b.starts b.enters b.sides };
 
     fn width(&self) -> u16 {
         self.states
@@ -100,14 +102,17 @@ impl<'a> ShapeBook for TableBook<'a> {
     }
 
     fn accepts(&self, state: u16) -> bool {
-        state < self.states && self.accept[state as usize] == 1
+        state < self.states && self.accept[usize::from(state)] == 1
     }
 }
 
 impl<'a> ShapeBook for SelectingTableBook<'a> {
-    ghost machine = { λ b. table_machine (table b.shape.states b.shape.trees b.shape.columns b.shape.start b.shape.accept.now b.shape.enter.now b.shape.up.now b.shape.side.now) };
+    ghost use Rattle.book_file.specs.Books.{tables_in};
+    ghost use Rattle.book_file.specs.Table.{table_lawful, table_machine};
 
-    ghost lawful = { λ b. table_lawful (table b.shape.states b.shape.trees b.shape.columns b.shape.start b.shape.accept.now b.shape.enter.now b.shape.up.now b.shape.side.now) b.shape.narrow b.shape.starts b.shape.enters b.shape.sides };
+    ghost machine = { λ b. table_machine (tables_in b.shape) };
+
+    ghost lawful = { λ b. table_lawful (tables_in b.shape) b.shape.narrow b.shape.starts b.shape.enters b.shape.sides };
 
     fn width(&self) -> u16 {
         self.shape.width()
@@ -131,7 +136,10 @@ impl<'a> ShapeBook for SelectingTableBook<'a> {
 }
 
 impl<'a> SelectingBook for SelectingTableBook<'a> {
-    ghost marks = { λ b. table_marks (table b.shape.states b.shape.trees b.shape.columns b.shape.start b.shape.accept.now b.shape.enter.now b.shape.up.now b.shape.side.now) b.mark.now };
+    ghost use Rattle.book_file.specs.Books.{tables_in};
+    ghost use Rattle.book_file.specs.Table.{table_marks};
+
+    ghost marks = { λ b. table_marks (tables_in b.shape) b.mark.now };
 
     fn marked(&self) {}
 

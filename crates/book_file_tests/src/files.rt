@@ -2,15 +2,29 @@
 use crate::samples::{SEAL, SHORTEST, seal_with};
 use book::selecting_book::SelectingBook;
 use book::shape_book::ShapeBook;
-use book_file::file::BookFile;
+use book_file::file::{BookFile, SelectingFile, ShapeFile};
 use book_file::reading::read_book;
 use std::test::Fail;
 
+// The shape file in these bytes.
+fn shape_file<'a>(bytes: &'a [u8]) -> Result<ShapeFile<'a>, Fail> {
+    match read_book(bytes) {
+        Ok(BookFile::Shape(file)) => Ok(file),
+        _ => Err(Fail::new("no shape file")),
+    }
+}
+
+// The selecting file in these bytes.
+fn selecting_file<'a>(bytes: &'a [u8]) -> Result<SelectingFile<'a>, Fail> {
+    match read_book(bytes) {
+        Ok(BookFile::Selecting(file)) => Ok(file),
+        _ => Err(Fail::new("no selecting file")),
+    }
+}
+
 #[test]
 fn shortest_file(rt: HostRuntime) -> Result<(), Fail> {
-    let Ok(BookFile::Shape(file)) = read_book(&SHORTEST) else {
-        return Err(Fail::new("refused"));
-    };
+    let file = shape_file(&SHORTEST)?;
     let book = file.book();
     assert!(rt; book.width() == 1 && book.start() == 0);
     assert!(rt; book.accepts(0) && !book.accepts(1));
@@ -22,9 +36,7 @@ fn shortest_file(rt: HostRuntime) -> Result<(), Fail> {
 
 #[test]
 fn seal_book_answers_from_its_tables(rt: HostRuntime) -> Result<(), Fail> {
-    let Ok(BookFile::Selecting(file)) = read_book(&SEAL) else {
-        return Err(Fail::new("refused"));
-    };
+    let file = selecting_file(&SEAL)?;
     let book = file.book();
     assert!(rt; book.width() == 5 && book.start() == 0);
     assert!(rt; !book.accepts(1) && book.accepts(2) && !book.accepts(3));
@@ -39,9 +51,7 @@ fn seal_book_answers_from_its_tables(rt: HostRuntime) -> Result<(), Fail> {
 #[test]
 fn start_that_is_not_zero(rt: HostRuntime) -> Result<(), Fail> {
     let bytes = seal_with(9, 4);
-    let Ok(BookFile::Selecting(file)) = read_book(&bytes) else {
-        return Err(Fail::new("refused"));
-    };
+    let file = selecting_file(&bytes)?;
     assert!(rt; file.book().start() == 4);
     Ok(())
 }
@@ -49,9 +59,7 @@ fn start_that_is_not_zero(rt: HostRuntime) -> Result<(), Fail> {
 #[test]
 fn tags_without_a_column_use_that_of_tag_0(rt: HostRuntime) -> Result<(), Fail> {
     let bytes = seal_with(30, 1);
-    let Ok(BookFile::Selecting(file)) = read_book(&bytes) else {
-        return Err(Fail::new("refused"));
-    };
+    let file = selecting_file(&bytes)?;
     let book = file.book();
     assert!(rt; book.mark(0, 0) == 1 && book.mark(0, 2) == 3);
     assert!(rt; book.mark(0, 3) == 1 && book.mark(0, 31) == 1);
@@ -61,9 +69,7 @@ fn tags_without_a_column_use_that_of_tag_0(rt: HostRuntime) -> Result<(), Fail> 
 
 #[test]
 fn questions_out_of_range_get_0_or_no(rt: HostRuntime) -> Result<(), Fail> {
-    let Ok(BookFile::Selecting(file)) = read_book(&SEAL) else {
-        return Err(Fail::new("refused"));
-    };
+    let file = selecting_file(&SEAL)?;
     let book = file.book();
     assert!(rt; book.enter(5, 0) == 0 && book.enter(2, 32) == 0 && book.enter(65535, 255) == 0);
     assert!(rt; book.mark(5, 0) == 0 && book.mark(1, 32) == 0);
@@ -74,16 +80,12 @@ fn questions_out_of_range_get_0_or_no(rt: HostRuntime) -> Result<(), Fail> {
 
 #[test]
 fn names_and_their_tags(rt: HostRuntime) -> Result<(), Fail> {
-    let Ok(BookFile::Selecting(file)) = read_book(&SEAL) else {
-        return Err(Fail::new("refused"));
-    };
-    let names = file.shape.names;
+    let file = selecting_file(&SEAL)?;
+    let names = file.names;
     assert!(rt; names.tag_of(b"reel") == 1 && names.tag_of(b"seal") == 2);
     assert!(rt; names.tag_of(b"Reel") == 0 && names.tag_of(b"ree") == 0 && names.tag_of(b"") == 0);
     assert!(rt; names.name_of(0).is_none() && names.name_of(3).is_none());
-    let Some(name) = names.name_of(2) else {
-        return Err(Fail::new("no name"));
-    };
+    let name = names.name_of(2).ok_or("no name")?;
     assert!(rt; name == b"seal".as_slice());
     Ok(())
 }
@@ -92,10 +94,8 @@ fn names_and_their_tags(rt: HostRuntime) -> Result<(), Fail> {
 fn lowest_tag_of_a_name_that_stands_twice(rt: HostRuntime) -> Result<(), Fail> {
     let mut bytes = seal_with(91, b'r');
     bytes[93] = b'e';
-    let Ok(BookFile::Selecting(file)) = read_book(&bytes) else {
-        return Err(Fail::new("refused"));
-    };
-    let names = file.shape.names;
+    let file = selecting_file(&bytes)?;
+    let names = file.names;
     assert!(rt; names.tag_of(b"reel") == 1 && names.tag_of(b"seal") == 0);
     assert!(rt; names.name_of(2).is_some());
     Ok(())
@@ -118,13 +118,11 @@ fn longest_file(rt: HostRuntime) -> Result<(), Fail> {
         }
     }
     assert!(rt; bytes.len() == 12329);
-    let Ok(BookFile::Selecting(file)) = read_book(&bytes) else {
-        return Err(Fail::new("refused"));
-    };
+    let file = selecting_file(&bytes)?;
     let book = file.book();
     assert!(rt; book.width() == 64 && book.start() == 63 && book.accepts(63));
     assert!(rt; book.enter(63, 31) == 63 && book.mark(63, 31) == 63 && book.back(63, 63, 31) == 63);
     assert!(rt; book.enter(63, 32) == 0 && book.enter(64, 31) == 0);
-    assert!(rt; file.shape.names.name_of(31).is_some() && file.shape.names.name_of(32).is_none());
+    assert!(rt; file.names.name_of(31).is_some() && file.names.name_of(32).is_none());
     Ok(())
 }

@@ -12,14 +12,11 @@ pub fn width_and_clear(bytes: &mut [u8]) -> u16
     ensures after { bytes.new ≡ cleared bytes.old }
 {
     let width = match read_book(bytes) {
-        Ok(BookFile::Shape(file)) => {
-            let book = file.book();
-            book.width()
-        }
+        Ok(BookFile::Shape(file)) => file.book().width(),
         _ => 0,
     };
-    if bytes.len() > 0 {
-        bytes[0] = 0;
+    if let Some(first) = bytes.first_mut() {
+        *first = 0;
     }
     width
 }

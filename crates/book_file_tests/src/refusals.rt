@@ -4,10 +4,7 @@ use book_file::reading::read_book;
 
 // Are these bytes refused with this number at this place?
 fn is_refused(bytes: &[u8], number: u32, place: usize) -> bool {
-    match read_book(bytes) {
-        Ok(_) => false,
-        Err(fault) => fault.number() == number && fault.place() == Some(place),
-    }
+    read_book(bytes).is_err_and(|fault| fault.number() == number && fault.place() == Some(place))
 }
 
 // Is the seal book with this byte refused there?

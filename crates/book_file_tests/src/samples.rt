@@ -26,8 +26,8 @@ pub const SHORTEST: [u8; 14] = [83, 69, 76, 1, 0, 1, 1, 1, 0, 0, 1, 0, 0, 0];
 // The seal book with another byte.
 pub(crate) fn seal_with(at: usize, byte: u8) -> [u8; 95] {
     let mut bytes = SEAL;
-    if at < bytes.len() {
-        bytes[at] = byte;
+    if let Some(place) = bytes.get_mut(at) {
+        *place = byte;
     }
     bytes
 }

@@ -9,6 +9,6 @@ pub returns-in-Shape : goal.returns-in-Shape
 returns-in-Shape c =
     let h = c.args.header in
     let t = c.args.tables in
-    let none : t.mark.now ≡ [] = nil_from_length t.mark.now (c.requires ∙ ap (λ k. mark_size k (entries h)) c.in-Shape.is) in
+    let none : t.mark.now ≡ [] = nil_from_length t.mark.now (c.requires.filled.mark.0 ∙ ap (λ k. mark_size k (entries h)) c.in-Shape.is) in
     let tables : Table = table h.states h.trees h.columns h.start t.accept.now t.enter.now t.up.now t.side.now in
     ap (λ k. file k tables [] (listed c.args.names)) (sym c.in-Shape.is) ∙ ap (λ xs. file h.kind tables xs (listed c.args.names)) (sym none)
