@@ -71,8 +71,7 @@ pub(crate) fn add_tags(page: Page, tags: &[Token<'_>]) -> Result<Page, AllocErro
     for tag in tags {
         outline.add_tag(*tag)?;
     }
-    let Outline { page, depth: _ } = outline;
-    Ok(page)
+    Ok(outline.page)
 }
 
 // How many tags there were, or where the text is refused.
