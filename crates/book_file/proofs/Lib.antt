@@ -1,10 +1,8 @@
-mod Entries
 mod FileRead
 mod FirstOff
 mod NamesRead
 mod ReadBack
 mod TablesRead
 mod Placed
-mod Unpacked
 mod WasWritten
 mod Written

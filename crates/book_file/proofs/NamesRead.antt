@@ -1,5 +1,5 @@
 -- Reading the names one after another.
-use Rattle.std.proofs.Common.{◌≡◌, ℕ, zero, suc, ◌+◌, ◌-◌, ◌<◌, ◌≤◌, Bool, true, false, cond, leb, List, [], ◌∷◌, ◌++◌, length, take, drop, Some, None, Ok, Err, Option, Result, sym, refl, ap, ◌∙◌, arith, leb-true}
+use Rattle.std.proofs.Common.{◌≡◌, ℕ, zero, suc, ◌+◌, ◌-◌, ◌<◌, ◌≤◌, Bool, true, false, cond, nat_le, List, [], ◌∷◌, ◌++◌, length, take, drop, Some, None, Ok, Err, Option, Result, sym, refl, ap, ◌∙◌, arith, leb-true}
 use Rattle.std.proofs.lemmas.List.{append_assoc, append-nil, length-take-le}
 use Rattle.book.specs.declared.fault.BookFault.{BookFault}
 use Rattle.book.specs.declared.fault.BookFault.TheVariants.{CutOff, NameByte}
@@ -55,25 +55,25 @@ module _ (size count counter at : ℕ) (bs : List ℕ) (ws : List (List ℕ)) wh
 
 -- What is read is what the bytes unpack to.
 pub name_is : (size at n : ℕ) (bs w : List ℕ) → name_at size at (n ∷ bs) ≡ Ok w → (w ≡ take n bs) × (length w ≡ n)
-name_is size at n bs w h = go (between 1 name_limit n) (leb n (length bs)) (misspelt (suc at) (take n bs)) refl h
+name_is size at n bs w h = go (between 1 name_limit n) (nat_le n (length bs)) (misspelt (suc at) (take n bs)) refl h
   where
-    go : (b c : Bool) (o : Option ℕ) → leb n (length bs) ≡ c → cond b (cond c (unless o NameByte (take n bs)) (Err (CutOff size))) (Err (NameByte at)) ≡ Ok w → (w ≡ take n bs) × (length w ≡ n)
+    go : (b c : Bool) (o : Option ℕ) → nat_le n (length bs) ≡ c → cond b (cond c (unless o NameByte (take n bs)) (Err (CutOff size))) (Err (NameByte at)) ≡ Ok w → (w ≡ take n bs) × (length w ≡ n)
     go true true None e k =
         let same : w ≡ take n bs = cc in
         (same, ap length same ∙ length-take-le n bs (leb-true n (length bs) e))
-    go true true (Some p) e k = absurd (let z : ◌≡◌ {A = ℕ} 0 1 = cc in omega arith)
-    go true false o e k = absurd (let z : ◌≡◌ {A = ℕ} 0 1 = cc in omega arith)
-    go false c o e k = absurd (let z : ◌≡◌ {A = ℕ} 0 1 = cc in omega arith)
+    go true true (Some p) e k = cc
+    go true false o e k = cc
+    go false c o e k = cc
 
 pub names_unpack : (size count at : ℕ) (bs : List ℕ) (ws : List (List ℕ)) → names_at size count at bs ≡ Ok ws → ws ≡ unpacked count bs
 names_unpack size zero at [] ws h = let e : ◌≡◌ {A = List (List ℕ)} [] ws = cc in sym e
-names_unpack size zero at (b ∷ bs) ws h = absurd (let z : ◌≡◌ {A = ℕ} 0 1 = cc in omega arith)
-names_unpack size (suc count) at [] ws h = absurd (let z : ◌≡◌ {A = ℕ} 0 1 = cc in omega arith)
+names_unpack size zero at (b ∷ bs) ws h = cc
+names_unpack size (suc count) at [] ws h = cc
 names_unpack size (suc count) at (n ∷ bs) ws h = one (name_at size at (n ∷ bs)) refl h (λ a cs vs. names_unpack size count a cs vs)
   where
     two : (w : List ℕ) (r : Listing) → then r (λ vs. Ok (w ∷ vs)) ≡ Ok ws → (vs : List (List ℕ)) × (r ≡ Ok vs) × (ws ≡ w ∷ vs)
     two w (Ok vs) k = let e : ◌≡◌ {A = List (List ℕ)} (w ∷ vs) ws = cc in (vs, refl, sym e)
-    two w (Err e) k = absurd (let z : ◌≡◌ {A = ℕ} 0 1 = cc in omega arith)
+    two w (Err e) k = cc
 
     one : (r : Result (List ℕ) BookFault) → name_at size at (n ∷ bs) ≡ r →
         then r (λ w. then (names_at size count (at + suc (length w)) (drop (suc (length w)) (n ∷ bs))) (λ vs. Ok (w ∷ vs))) ≡ Ok ws →
@@ -84,7 +84,7 @@ names_unpack size (suc count) at (n ∷ bs) ws h = one (name_at size at (n ∷ b
         let q = name_is size at n bs w e in
         p.2 ∙ ap (λ v. v ∷ p.0) q.0
         ∙ ap (λ vs. take n bs ∷ vs) (rest (at + suc (length w)) (drop (length w) bs) p.0 p.1 ∙ ap (λ m. unpacked count (drop m bs)) q.1)
-    one (Err x) e k rest = absurd (let z : ◌≡◌ {A = ℕ} 0 1 = cc in omega arith)
+    one (Err x) e k rest = cc
 
 pub names_passed : {U : Type 0} (r : Result U BookFault) (size count at : ℕ) (bs : List ℕ) (ws : List (List ℕ)) → names_at size count at bs ≡ passed r ws → passed r (unpacked count bs) ≡ names_at size count at bs
 names_passed (Ok u) size count at bs ws e = ap (λ vs. Ok vs) (sym (names_unpack size count at bs ws e)) ∙ sym e

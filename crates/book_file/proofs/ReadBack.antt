@@ -1,5 +1,5 @@
 -- What was written is read: each part of a right file, and the file.
-use Rattle.std.proofs.Common.{◌≡◌, ℕ, suc, ◌+◌, ◌-◌, ◌*◌, ◌≤◌, true, cond, ◌&&◌, ltb, leb, List, [], ◌∷◌, ◌++◌, length, take, drop, Some, None, Ok, Err, Result, sym, refl, ap, ◌∙◌, arith}
+use Rattle.std.proofs.Common.{◌≡◌, ℕ, suc, ◌+◌, ◌-◌, ◌*◌, ◌≤◌, true, cond, ◌&&◌, nat_lt, nat_le, List, [], ◌∷◌, ◌++◌, length, take, drop, Some, None, Ok, Err, Result, sym, refl, ap, ◌∙◌, arith}
 use Rattle.std.proofs.lemmas.List.{drop_at, length-append, take_at}
 use Rattle.std.proofs.lemmas.Bool.{and_from, and_parts, cond-false, cond-true, le-leb, le-ltb}
 use Rattle.book.specs.Limits.{most_states, tags}
@@ -12,7 +12,7 @@ use Rattle.book_file.specs.declared.header.Kind.TheVariants.{Selecting, Shape}
 use Rattle.book_file.specs.Files.{File, Filled, Right, bytes_of, entries, first_off, header, kind_byte, kind_of, mark_size, misspelt, name_at, names_at, names_bytes, reading, right_names, table_at, tables_at, tables_size, then, unless}
 use Rattle.book_file.proofs.FileRead.{file_read}
 use Rattle.book_file.proofs.FirstOff.{all_none, unless_none}
-use Rattle.book_file.proofs.TablesRead as read
+use Rattle.book_file.proofs.TablesRead.{tables_behind}
 
 -- The header ------------------------------------------------------------------------------------------------------
 
@@ -20,20 +20,20 @@ abbrev pub numbered : ℕ → ℕ → ℕ → Kind → ℕ → Header
 numbered states trees columns kind start = record { states = states; trees = trees; columns = columns; kind = kind; start = start }
 
 pub header_back : (states trees columns : ℕ) (kind : Kind) (start : ℕ) (rest : List ℕ) →
-    between 1 most_states states ≡ true → between 1 most_states trees ≡ true → between 1 tags columns ≡ true → ltb start states ≡ true →
+    between 1 most_states states ≡ true → between 1 most_states trees ≡ true → between 1 tags columns ≡ true → nat_lt start states ≡ true →
     header (83 ∷ 69 ∷ 76 ∷ 1 ∷ 0 ∷ states ∷ trees ∷ columns ∷ kind_byte kind ∷ start ∷ rest)
     ≡ Ok (numbered states trees columns kind start)
 header_back states trees columns kind start rest s t c b =
     let bs : List ℕ = 83 ∷ 69 ∷ 76 ∷ 1 ∷ 0 ∷ states ∷ trees ∷ columns ∷ kind_byte kind ∷ start ∷ rest in
     let long : 10 ≤ length bs = omega arith in
-    cond-false (ltb (length bs) 10) (Err (ShortHeader (length bs))) _ (le-ltb (length bs) 10 long) ∙ numbers kind
+    cond-false (nat_lt (length bs) 10) (Err (ShortHeader (length bs))) _ (le-ltb (length bs) 10 long) ∙ numbers kind
   where
     numbers : (k : Kind) →
         cond {A = Result Header BookFault} (between 1 most_states states)
         (cond (between 1 most_states trees)
         (cond (between 1 tags columns)
-        (cond (leb (kind_byte k) 1)
-        (cond (ltb start states) (Ok (numbered states trees columns (kind_of (kind_byte k)) start))
+        (cond (nat_le (kind_byte k) 1)
+        (cond (nat_lt start states) (Ok (numbered states trees columns (kind_of (kind_byte k)) start))
         (Err (HeaderNumber 9))) (Err (HeaderNumber 8))) (Err (HeaderNumber 7))) (Err (HeaderNumber 6))) (Err (HeaderNumber 5))
         ≡ Ok (numbered states trees columns k start)
     numbers Shape = simp (s, t, c, b)
@@ -41,9 +41,9 @@ header_back states trees columns kind start rest s t c b =
 
 -- The tables ------------------------------------------------------------------------------------------------------
 
-table_back : (bound size at : ℕ) (xs rest : List ℕ) → Filled size bound xs → Ok xs ≡ table_at bound at (take size (xs ++ rest))
+table_back : (bound size at : ℕ) (xs rest : List ℕ) → Filled size bound xs → table_at bound at (take size (xs ++ rest)) ≡ Ok xs
 table_back bound size at xs rest f =
-    sym (ap (table_at bound at) (take_at xs rest size f.0) ∙ unless_none (first_off (λ x. ltb x bound) at xs) TableEntry xs (all_none (λ x. ltb x bound) at xs f.1))
+    ap (table_at bound at) (take_at xs rest size f.0) ∙ unless_none (first_off (λ x. nat_lt x bound) at xs) TableEntry xs (all_none (λ x. nat_lt x bound) at xs f.1)
 
 module _ (h : Header) (at : ℕ) (accept enter mark up side rest : List ℕ)
     (accepts : Filled h.states 2 accept) (enters : Filled (entries h) h.states enter) (marks : Filled (mark_size h.kind (entries h)) h.states mark)
@@ -52,30 +52,37 @@ module _ (h : Header) (at : ℕ) (accept enter mark up side rest : List ℕ)
     abbrev bs : List ℕ
     bs = accept ++ (enter ++ (mark ++ (up ++ (side ++ rest))))
 
-    abbrev S : ℕ
-    S = h.states
+    behind_accept : drop h.states bs ≡ enter ++ (mark ++ (up ++ (side ++ rest)))
+    behind_accept = drop_at accept _ h.states accepts.0
 
-    abbrev E : ℕ
-    E = entries h
+    behind_enter : drop (entries h) (enter ++ (mark ++ (up ++ (side ++ rest)))) ≡ mark ++ (up ++ (side ++ rest))
+    behind_enter = drop_at enter _ (entries h) enters.0
 
-    abbrev M : ℕ
-    M = mark_size h.kind (entries h)
+    behind_mark : drop (mark_size h.kind (entries h)) (mark ++ (up ++ (side ++ rest))) ≡ up ++ (side ++ rest)
+    behind_mark = drop_at mark _ (mark_size h.kind (entries h)) marks.0
 
-    pub tables_back : Ok (record { accept = accept; enter = enter; mark = mark; up = up; side = side }) ≡ tables_at h at bs
+    behind_up : drop (entries h) (up ++ (side ++ rest)) ≡ side ++ rest
+    behind_up = drop_at up _ (entries h) ups.0
+
+    pub tables_back : tables_at h at bs ≡ Ok (record { accept = accept; enter = enter; mark = mark; up = up; side = side })
     tables_back =
-        read.tables_read h at bs S E M E (S * h.trees) refl refl refl refl refl (at + S) (at + S + E) (at + S + E + M) (at + S + E + M + E)
-        (enter ++ (mark ++ (up ++ (side ++ rest)))) (mark ++ (up ++ (side ++ rest))) (up ++ (side ++ rest)) (side ++ rest)
-        refl (sym (drop_at accept _ S accepts.0)) refl (sym (drop_at enter _ E enters.0)) refl (sym (drop_at mark _ M marks.0)) refl (sym (drop_at up _ E ups.0))
-        accept enter mark up side
-        (table_back 2 S at accept _ accepts) (table_back S E (at + S) enter _ enters) (table_back S M (at + S + E) mark _ marks)
-        (table_back h.trees E (at + S + E + M) up _ ups) (table_back S (S * h.trees) (at + S + E + M + E) side rest sides)
+        let S : ℕ = h.states in
+        let E : ℕ = entries h in
+        let M : ℕ = mark_size h.kind (entries h) in
+        simp (
+          behind_accept,
+          behind_enter,
+          behind_mark,
+          behind_up,
+          table_back 2 S at accept (enter ++ (mark ++ (up ++ (side ++ rest)))) accepts,
+          table_back S E (at + S) enter (mark ++ (up ++ (side ++ rest))) enters,
+          table_back S M (at + S + E) mark (up ++ (side ++ rest)) marks,
+          table_back h.trees E (at + S + E + M) up (side ++ rest) ups,
+          table_back S (S * h.trees) (at + S + E + M + E) side rest sides,
+        )
 
-    pub behind_back : rest ≡ drop (tables_size h) bs
-    behind_back =
-        (read.tables_behind h at bs S E M E (S * h.trees) refl refl refl refl refl (at + S) (at + S + E) (at + S + E + M) (at + S + E + M + E)
-        (enter ++ (mark ++ (up ++ (side ++ rest)))) (mark ++ (up ++ (side ++ rest))) (up ++ (side ++ rest)) (side ++ rest)
-        refl (sym (drop_at accept _ S accepts.0)) refl (sym (drop_at enter _ E enters.0)) refl (sym (drop_at mark _ M marks.0)) refl (sym (drop_at up _ E ups.0))
-        (at + S + E + M + E + S * h.trees) rest refl (sym (drop_at side rest (S * h.trees) sides.0))).0
+    pub behind_back : drop (tables_size h) bs ≡ rest
+    behind_back = sym (tables_behind h bs) ∙ simp (behind_accept, behind_enter, behind_mark, behind_up, drop_at side rest (h.states * h.trees) sides.0)
 
     pub length_back : length bs ≡ tables_size h + length rest
     length_back = simp length-append (omega (arith, accepts.0, enters.0, marks.0, ups.0, sides.0))
@@ -86,15 +93,15 @@ misspelt_none : (at b : ℕ) (bs : List ℕ) → name_start b ≡ true → all n
 misspelt_none at b bs s r = cond-true (name_start b) (first_off name_byte (suc at) bs) (Some at) s ∙ all_none name_byte (suc at) bs r
 
 name_back : (size at : ℕ) (w rest : List ℕ) → right_name w ≡ true → name_at size at (length w ∷ (w ++ rest)) ≡ Ok w
-name_back size at [] rest h = absurd (let z : ◌≡◌ {A = ℕ} 0 1 = cc in omega arith)
+name_back size at [] rest h = cc
 name_back size at (b ∷ bs) rest h =
     let n : ℕ = suc (length bs) in
-    let p = and_parts (name_start b && all name_byte bs) (leb n name_limit) h in
+    let p = and_parts (name_start b && all name_byte bs) (nat_le n name_limit) h in
     let q = and_parts (name_start b) (all name_byte bs) p.0 in
     let some : 1 ≤ n = omega arith in
     let whole : n ≤ length ((b ∷ bs) ++ rest) = simp length-append (omega arith) in
-    cond-true (between 1 name_limit n) _ _ (and_from (leb 1 n) (leb n name_limit) (le-leb 1 n some) p.1)
-    ∙ cond-true (leb n (length ((b ∷ bs) ++ rest))) _ _ (le-leb n (length ((b ∷ bs) ++ rest)) whole)
+    cond-true (between 1 name_limit n) _ _ (and_from (nat_le 1 n) (nat_le n name_limit) (le-leb 1 n some) p.1)
+    ∙ cond-true (nat_le n (length ((b ∷ bs) ++ rest))) _ _ (le-leb n (length ((b ∷ bs) ++ rest)) whole)
     ∙ ap (λ v. unless (misspelt (suc at) v) NameByte v) (take_at (b ∷ bs) rest n refl)
     ∙ unless_none (misspelt (suc at) (b ∷ bs)) NameByte (b ∷ bs) (misspelt_none (suc at) b bs q.0 q.1)
 
@@ -122,7 +129,7 @@ read_back f r =
     sym
     (file_read bs h (sym (header_back t.states t.trees t.columns f.kind t.start body r.states r.trees r.columns r.start)) whole
     (record { accept = t.accept; enter = t.enter; mark = f.mark; up = t.up; side = t.side })
-    (tables_back h 10 t.accept t.enter f.mark t.up t.side rest r.accept r.enter r.mark r.up r.side)
+    (sym (tables_back h 10 t.accept t.enter f.mark t.up t.side rest r.accept r.enter r.mark r.up r.side))
     (10 + tables_size h) rest refl
-    (behind_back h 10 t.accept t.enter f.mark t.up t.side rest r.accept r.enter r.mark r.up r.side)
-    f.names (sym (ap (λ n. names_at (length bs) n (10 + tables_size h) rest) (sym count) ∙ names_back (length bs) (10 + tables_size h) f.names r.names)))
+    (sym (behind_back h 10 t.accept t.enter f.mark t.up t.side rest r.accept r.enter r.mark r.up r.side))
+    f.names (sym (ap (λ n. names_at (10 + tables_size h + length rest) n (10 + tables_size h) rest) (sym count) ∙ names_back (10 + tables_size h + length rest) (10 + tables_size h) f.names r.names)))

@@ -1,5 +1,5 @@
 -- What is read was written: each part of the bytes that a file was read from, and the bytes.
-use Rattle.std.proofs.Common.{◌≡◌, ℕ, zero, suc, ◌+◌, ◌-◌, ◌*◌, ◌<◌, ◌≤◌, Bool, true, false, cond, ◌&&◌, eqb, ltb, leb, List, [], ◌∷◌, ◌++◌, length, get_or, take, drop, Some, None, Ok, Err, Option, Result, sym, refl, ap, ◌∙◌, subst, arith}
+use Rattle.std.proofs.Common.{◌≡◌, ℕ, zero, suc, ◌+◌, ◌-◌, ◌*◌, ◌<◌, ◌≤◌, Bool, true, false, cond, ◌&&◌, eqb, nat_lt, nat_le, List, [], ◌∷◌, ◌++◌, length, get_or, take, drop, Some, None, Ok, Err, Option, Result, sym, refl, ap, ◌∙◌, subst, arith}
 use Rattle.std.proofs.lemmas.List.{drop-drop, drop_more, length-drop, length-take-le, take-append-drop}
 use Rattle.std.proofs.lemmas.Bool.{and_from, and_parts, eqb-true, leb-true, ltb-false}
 use Rattle.book.specs.Limits.{most_states, tags}
@@ -10,7 +10,7 @@ use Rattle.book_file.specs.declared.header.Header.{Header}
 use Rattle.book_file.specs.Files.{File, Filled, Right, Rows, bytes_of, entries, file_with, first_off, header, header_of, kind_byte, kind_of, mark_size, misspelt, name_at, names_at, names_bytes, reading, right_names, table_at, tables_at, tables_size, then, unless}
 use Rattle.book_file.specs.Table.{below}
 use Rattle.book_file.proofs.FirstOff.{none_all}
-use Rattle.book_file.proofs.TablesRead as read
+use Rattle.book_file.proofs.TablesRead.{tables_behind}
 
 -- Results ---------------------------------------------------------------------------------------------------------
 
@@ -19,24 +19,24 @@ module _ {A : Type 0} where
   ok_same r a b p q = cc
 
   pub ok_err : (r : Result A BookFault) (a : A) (e : BookFault) → r ≡ Ok a → r ≡ Err e → ⊥
-  ok_err r a e p q = let z : ◌≡◌ {A = ℕ} 0 1 = cc in omega arith
+  ok_err r a e p q = cc
 
   -- a test that was passed
   pub passed_true : (b : Bool) (r : Result A BookFault) (e : BookFault) (a : A) → cond b r (Err e) ≡ Ok a → (b ≡ true) × (r ≡ Ok a)
   passed_true true r e a h = (refl, h)
-  passed_true false r e a h = absurd (ok_err (Err e) a e h refl)
+  passed_true false r e a h = cc
 
   pub passed_false : (b : Bool) (r : Result A BookFault) (e : BookFault) (a : A) → cond b (Err e) r ≡ Ok a → (b ≡ false) × (r ≡ Ok a)
-  passed_false true r e a h = absurd (ok_err (Err e) a e h refl)
+  passed_false true r e a h = cc
   passed_false false r e a h = (refl, h)
 
   pub unless_ok : (o : Option ℕ) (fault : ℕ → BookFault) (a b : A) → unless o fault a ≡ Ok b → (o ≡ None) × (b ≡ a)
   unless_ok None fault a b h = (refl, ok_same (Ok a) b a h refl)
-  unless_ok (Some at) fault a b h = absurd (ok_err (Err (fault at)) b (fault at) h refl)
+  unless_ok (Some at) fault a b h = cc
 
 pub then_ok : {A B : Type 0} (r : Result A BookFault) (f : A → Result B BookFault) (b : B) → then r f ≡ Ok b → (a : A) × (r ≡ Ok a) × (f a ≡ Ok b)
 then_ok (Ok a) f b h = (a, refl, h)
-then_ok (Err e) f b h = absurd (ok_err (Err e) b e h refl)
+then_ok (Err e) f b h = cc
 
 -- The header ------------------------------------------------------------------------------------------------------
 
@@ -45,7 +45,7 @@ pub record HeaderWritten (bs : List ℕ) (h : Header) : Type 0 where
   pub states : between 1 most_states h.states ≡ true
   pub trees : between 1 most_states h.trees ≡ true
   pub columns : between 1 tags h.columns ≡ true
-  pub start : ltb h.start h.states ≡ true
+  pub start : nat_lt h.start h.states ≡ true
   pub bytes : bs ≡ 83 ∷ 69 ∷ 76 ∷ 1 ∷ 0 ∷ h.states ∷ h.trees ∷ h.columns ∷ kind_byte h.kind ∷ h.start ∷ drop 10 bs
 
 ten_bytes : (bs : List ℕ) → 10 ≤ length bs →
@@ -57,20 +57,20 @@ ten_bytes bs l =
     next : (i : ℕ) (xs : List ℕ) → i < length bs → drop (i + 1) bs ≡ xs → drop i bs ≡ get_or bs i 0 ∷ xs
     next i xs k e = drop_more bs i 0 k ∙ ap (λ ys. get_or bs i 0 ∷ ys) e
 
-kind_byte_of : (n : ℕ) → leb n 1 ≡ true → kind_byte (kind_of n) ≡ n
+kind_byte_of : (n : ℕ) → nat_le n 1 ≡ true → kind_byte (kind_of n) ≡ n
 kind_byte_of zero h = refl
-kind_byte_of (suc n) h = let l = leb-true (suc n) 1 h in let e : ◌≡◌ {A = ℕ} 1 (suc n) = omega arith in e
+kind_byte_of (suc n) h = let l = leb-true (suc n) 1 h in omega arith
 
 pub header_written : (bs : List ℕ) (h : Header) → header bs ≡ Ok h → HeaderWritten bs h
 header_written bs h e =
-    let p₀ = passed_false (ltb (length bs) 10) _ (ShortHeader (length bs)) h e in
+    let p₀ = passed_false (nat_lt (length bs) 10) _ (ShortHeader (length bs)) h e in
     let p₁ = passed_true (eqb (get_or bs 0 0) 83 && (eqb (get_or bs 1 0) 69 && eqb (get_or bs 2 0) 76)) _ Letters h p₀.1 in
     let p₃ = passed_true (eqb (get_or bs 3 0) 1 && eqb (get_or bs 4 0) 0) _ Version h p₁.1 in
     let p₅ = passed_true (between 1 most_states (get_or bs 5 0)) _ (HeaderNumber 5) h p₃.1 in
     let p₆ = passed_true (between 1 most_states (get_or bs 6 0)) _ (HeaderNumber 6) h p₅.1 in
     let p₇ = passed_true (between 1 tags (get_or bs 7 0)) _ (HeaderNumber 7) h p₆.1 in
-    let p₈ = passed_true (leb (get_or bs 8 0) 1) _ (HeaderNumber 8) h p₇.1 in
-    let p₉ = passed_true (ltb (get_or bs 9 0) (get_or bs 5 0)) (Ok (header_of bs)) (HeaderNumber 9) h p₈.1 in
+    let p₈ = passed_true (nat_le (get_or bs 8 0) 1) _ (HeaderNumber 8) h p₇.1 in
+    let p₉ = passed_true (nat_lt (get_or bs 9 0) (get_or bs 5 0)) (Ok (header_of bs)) (HeaderNumber 9) h p₈.1 in
     let sel = and_parts (eqb (get_or bs 0 0) 83) (eqb (get_or bs 1 0) 69 && eqb (get_or bs 2 0) 76) p₁.0 in
     let el = and_parts (eqb (get_or bs 1 0) 69) (eqb (get_or bs 2 0) 76) sel.1 in
     let one = and_parts (eqb (get_or bs 3 0) 1) (eqb (get_or bs 4 0) 0) p₃.0 in
@@ -98,8 +98,8 @@ header_written bs h e =
 -- a table that was read, and what stands behind it
 table_written : (bound size at : ℕ) (bs xs : List ℕ) → size ≤ length bs → table_at bound at (take size bs) ≡ Ok xs → Filled size bound xs × (bs ≡ xs ++ drop size bs)
 table_written bound size at bs xs l e =
-    let p = unless_ok (first_off (λ x. ltb x bound) at (take size bs)) TableEntry (take size bs) xs e in (
-      (ap length p.1 ∙ length-take-le size bs l, ap (below bound) p.1 ∙ none_all (λ x. ltb x bound) at (take size bs) p.0),
+    let p = unless_ok (first_off (λ x. nat_lt x bound) at (take size bs)) TableEntry (take size bs) xs e in (
+      (ap length p.1 ∙ length-take-le size bs l, ap (below bound) p.1 ∙ none_all (λ x. nat_lt x bound) at (take size bs) p.0),
       sym (ap (λ ys. ys ++ drop size bs) p.1 ∙ take-append-drop size bs),
     )
 
@@ -141,7 +141,6 @@ tables_written h at bs ts l e =
     let w₃ = table_written S M (at + S + E) b₂ v₃.0 k₂ v₃.1 in
     let w₄ = table_written h.trees E (at + S + E + M) b₃ v₄.0 k₃ v₄.1 in
     let w₅ = table_written S T (at + S + E + M + E) b₄ v₅.0 k₄ v₅.1 in
-    let behind = (read.tables_behind h at bs S E M E T refl refl refl refl refl (at + S) (at + S + E) (at + S + E + M) (at + S + E + M + E) b₁ b₂ b₃ b₄ refl refl refl refl refl refl refl refl (at + S + E + M + E + T) (drop T b₄) refl refl).0 in
     let rows : Rows = record { accept = v₁.0; enter = v₂.0; mark = v₃.0; up = v₄.0; side = v₅.0 } in
     let same : rows ≡ ts = ok_same (Ok rows) rows ts refl v₅.2 in
     subst (λ t. TablesWritten h bs t) same
@@ -153,29 +152,29 @@ tables_written h at bs ts l e =
       side = w₅.0;
       bytes =
           w₁.1
-          ∙ ap (λ xs. v₁.0 ++ xs) (w₂.1 ∙ ap (λ xs. v₂.0 ++ xs) (w₃.1 ∙ ap (λ xs. v₃.0 ++ xs) (w₄.1 ∙ ap (λ xs. v₄.0 ++ xs) (w₅.1 ∙ ap (λ xs. v₅.0 ++ xs) behind))));
+          ∙ ap (λ xs. v₁.0 ++ xs) (w₂.1 ∙ ap (λ xs. v₂.0 ++ xs) (w₃.1 ∙ ap (λ xs. v₃.0 ++ xs) (w₄.1 ∙ ap (λ xs. v₄.0 ++ xs) (w₅.1 ∙ ap (λ xs. v₅.0 ++ xs) (tables_behind h bs)))));
     })
 
 -- The names -------------------------------------------------------------------------------------------------------
 
-spelt_right : (at : ℕ) (w : List ℕ) → misspelt at w ≡ None → 1 ≤ length w → leb (length w) name_limit ≡ true → right_name w ≡ true
+spelt_right : (at : ℕ) (w : List ℕ) → misspelt at w ≡ None → 1 ≤ length w → nat_le (length w) name_limit ≡ true → right_name w ≡ true
 spelt_right at [] h some most = absurd (omega arith)
 spelt_right at (b ∷ bs) h some most = go (name_start b) refl h
   where
     go : (t : Bool) → name_start b ≡ t → cond t (first_off name_byte (suc at) bs) (Some at) ≡ None → right_name (b ∷ bs) ≡ true
-    go true e k = and_from (name_start b && all name_byte bs) (leb (suc (length bs)) name_limit) (and_from (name_start b) (all name_byte bs) e (none_all name_byte (suc at) bs k)) most
-    go false e k = absurd (let z : ◌≡◌ {A = ℕ} 0 1 = cc in omega arith)
+    go true e k = and_from (name_start b && all name_byte bs) (nat_le (suc (length bs)) name_limit) (and_from (name_start b) (all name_byte bs) e (none_all name_byte (suc at) bs k)) most
+    go false e k = cc
 
 pub name_written : (size at : ℕ) (bs w : List ℕ) → name_at size at bs ≡ Ok w → (right_name w ≡ true) × (bs ≡ length w ∷ (w ++ drop (suc (length w)) bs))
-name_written size at [] w h = absurd (ok_err (Err (CutOff size)) w (CutOff size) h refl)
+name_written size at [] w h = cc
 name_written size at (n ∷ bs) w h =
     let p = passed_true (between 1 name_limit n) _ (NameByte at) w h in
-    let q = passed_true (leb n (length bs)) _ (CutOff size) w p.1 in
+    let q = passed_true (nat_le n (length bs)) _ (CutOff size) w p.1 in
     let r = unless_ok (misspelt (suc at) (take n bs)) NameByte (take n bs) w q.1 in
     let long : length w ≡ n = ap length r.1 ∙ length-take-le n bs (leb-true n (length bs) q.0) in
-    let bounds = and_parts (leb 1 n) (leb n name_limit) p.0 in
+    let bounds = and_parts (nat_le 1 n) (nat_le n name_limit) p.0 in
     let some : 1 ≤ length w = omega (arith, leb-true 1 n bounds.0) in (
-      spelt_right (suc at) w (ap (misspelt (suc at)) r.1 ∙ r.0) some (ap (λ k. leb k name_limit) long ∙ bounds.1),
+      spelt_right (suc at) w (ap (misspelt (suc at)) r.1 ∙ r.0) some (ap (λ k. nat_le k name_limit) long ∙ bounds.1),
       ap (λ xs. n ∷ xs) (sym (take-append-drop n bs)) ∙ ap (λ xs. n ∷ (xs ++ drop n bs)) (sym r.1) ∙ ap (λ k. k ∷ (w ++ drop k bs)) (sym long),
     )
 
@@ -185,7 +184,7 @@ NamesWritten count bs ws = (bs ≡ names_bytes ws) × (right_names ws ≡ true) 
 
 pub names_written : (size count at : ℕ) (bs : List ℕ) (ws : List (List ℕ)) → names_at size count at bs ≡ Ok ws → NamesWritten count bs ws
 names_written size zero at [] ws h = subst (λ vs. NamesWritten 0 [] vs) (ok_same (Ok []) [] ws refl h) (refl, refl, refl)
-names_written size zero at (b ∷ bs) ws h = absurd (ok_err (names_at size zero at (b ∷ bs)) ws _ h refl)
+names_written size zero at (b ∷ bs) ws h = cc
 names_written size (suc count) at bs ws h =
     let one = then_ok (name_at size at bs) _ ws h in
     let w : List ℕ = one.0 in
@@ -206,7 +205,7 @@ pub file_written : (bs : List ℕ) (f : File) → reading bs ≡ Ok f → FileWr
 file_written bs f e =
     let v₁ = then_ok (header bs) _ f e in
     let h : Header = v₁.0 in
-    let v₂ = passed_false (ltb (length bs) (10 + tables_size h)) _ (CutOff (length bs)) f v₁.2 in
+    let v₂ = passed_false (nat_lt (length bs) (10 + tables_size h)) _ (CutOff (length bs)) f v₁.2 in
     let v₃ = then_ok (tables_at h 10 (drop 10 bs)) _ f v₂.1 in
     let ts : Rows = v₃.0 in
     let v₄ = then_ok (names_at (length bs) (h.columns - 1) (10 + tables_size h) (drop (10 + tables_size h) bs)) _ f v₃.2 in
@@ -217,7 +216,7 @@ file_written bs f e =
     let head = header_written bs h v₁.1 in
     let tables = tables_written h 10 (drop 10 bs) ts enough v₃.1 in
     let names = names_written (length bs) (h.columns - 1) (10 + tables_size h) (drop (10 + tables_size h) bs) ws v₄.1 in
-    let some : 1 ≤ h.columns = leb-true 1 h.columns (and_parts (leb 1 h.columns) (leb h.columns tags) head.columns).0 in
+    let some : 1 ≤ h.columns = leb-true 1 h.columns (and_parts (nat_le 1 h.columns) (nat_le h.columns tags) head.columns).0 in
     let count : length ws ≡ h.columns - 1 = names.2 in
     let same : file_with h ts ws ≡ f = ok_same (Ok (file_with h ts ws)) (file_with h ts ws) f refl v₄.2 in
     subst (λ g. FileWritten bs g) same (

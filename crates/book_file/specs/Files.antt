@@ -1,5 +1,5 @@
 -- Book files, version 1: what they hold, how they are written, and how they are read.
-use Rattle.std.specs.Prelude.{◌≡◌, ℕ, zero, suc, ◌+◌, ◌-◌, ◌*◌, Bool, true, cond, ◌&&◌, ltb, List, [], ◌∷◌, ◌++◌, length, take, drop, Some, None, Ok, Err, Option, Result, ◌==◌, nat_le, nat_lt, slice_index}
+use Rattle.std.specs.Prelude.{◌≡◌, ℕ, zero, suc, ◌+◌, ◌-◌, ◌*◌, Bool, true, cond, ◌&&◌, List, [], ◌∷◌, ◌++◌, length, take, drop, Some, None, Ok, Err, Option, Result, ◌==◌, nat_le, nat_lt, slice_index}
 use Rattle.std.specs.Borrow.{Bor}
 use Rattle.name_bytes.specs.Names.{between, name_byte, name_limit, name_start, right_name}
 use Rattle.book.specs.Limits.{most_states, tags}
@@ -40,7 +40,7 @@ pub record Right (f : File) : Type 0 where
   pub states : between 1 most_states f.tables.states ≡ true
   pub trees : between 1 most_states f.tables.trees ≡ true
   pub columns : between 1 tags f.tables.columns ≡ true
-  pub start : ltb f.tables.start f.tables.states ≡ true
+  pub start : nat_lt f.tables.start f.tables.states ≡ true
   pub accept : Filled f.tables.states 2 f.tables.accept
   pub enter : Filled (f.tables.states * f.tables.columns) f.tables.states f.tables.enter
   pub mark : Filled (mark_size f.kind (f.tables.states * f.tables.columns)) f.tables.states f.mark
@@ -109,7 +109,7 @@ header bs =
 
 -- a table at an offset: its first entry that is not below the bound is a fault
 abbrev pub table_at : ℕ → ℕ → List ℕ → Result (List ℕ) BookFault
-table_at bound at xs = unless (first_off (λ x. ltb x bound) at xs) TableEntry xs
+table_at bound at xs = unless (first_off (λ x. nat_lt x bound) at xs) TableEntry xs
 
 -- a part of the file that was read, as its bytes
 abbrev pub parted : Result (Bor (List ℕ)) BookFault → Result (List ℕ) BookFault

@@ -4,3 +4,4 @@ pub mod Laws
 pub mod Names
 pub mod Parts
 pub mod Books
+pub mod Ranges

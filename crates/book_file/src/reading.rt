@@ -118,6 +118,6 @@ pub fn read_book<'a>(bytes: &'a [u8]) -> Result<BookFile<'a>, BookFault>
         packed: rest.bytes,
         count: header.columns - 1,
     };
-    rest.names(names.count, bytes.len())?;
+    rest.names(names.count)?;
     Ok(file_with(header, tables, names))
 }

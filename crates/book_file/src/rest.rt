@@ -85,14 +85,24 @@ impl<'a> Rest<'a> {
         })
     }
 
-    // The next name of a file of some size: its length, then whether it is whole, then its bytes.
-    fn name(&mut self, size: usize) -> Result<&'a [u8], BookFault>
-        ensures value { parted result ≡ name_at size self.old.at self.old.bytes.now }
+    // How many bytes the whole file has.
+    fn size(&self) -> usize
+        ensures { result ≡ self.now.at + length self.now.bytes.now }
+    {
+        self.at + self.bytes.len()
+    }
+
+    // The next name: its length, then whether it is whole, then its bytes.
+    fn name(&mut self) -> Result<&'a [u8], BookFault>
+        ensures value { parted result ≡ name_at (self.old.at + length self.old.bytes.now) self.old.at self.old.bytes.now }
         ensures bytes { IfOk result (λ w. self.new.bytes.now ≡ drop (suc (length w.now)) self.old.bytes.now) }
         ensures at { IfOk result (λ w. self.new.at ≡ self.old.at + suc (length w.now)) }
+        ensures size { IfOk result (λ w. self.new.at + length self.new.bytes.now ≡ self.old.at + length self.old.bytes.now) }
     {
         let Some((first, rest)) = self.bytes.split_first() else {
-            return Err(BookFault::CutOff { length: size });
+            return Err(BookFault::CutOff {
+                length: self.size(),
+            });
         };
         let at = self.at;
         let length = usize::from(*first);
@@ -100,7 +110,9 @@ impl<'a> Rest<'a> {
             return Err(BookFault::NameByte { at });
         }
         if length > rest.len() {
-            return Err(BookFault::CutOff { length: size });
+            return Err(BookFault::CutOff {
+                length: self.size(),
+            });
         }
         let (name, rest) = rest.split_at(length);
         if let Some(at) = first_bad_byte(name, at + 1) {
@@ -111,12 +123,12 @@ impl<'a> Rest<'a> {
         Ok(name)
     }
 
-    // So many names of a file of some size, and nothing behind them.
-    pub(crate) fn names(&mut self, count: u8, size: usize) -> Result<(), BookFault>
-        ensures { passed result (unpacked count self.old.bytes.now) ≡ names_at size count self.old.at self.old.bytes.now }
+    // So many names, and nothing behind them.
+    pub(crate) fn names(&mut self, count: u8) -> Result<(), BookFault>
+        ensures { passed result (unpacked count self.old.bytes.now) ≡ names_at (self.old.at + length self.old.bytes.now) count self.old.at self.old.bytes.now }
     {
         'names: for _ in 0..count {
-            let _name = self.name(size)?;
+            let _name = self.name()?;
         }
         self.finish()
     }

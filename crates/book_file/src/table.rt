@@ -40,7 +40,11 @@ pub struct SelectingTableBook<'a> {
 }
 
 impl<'a> TableBook<'a> {
+    ghost use Rattle.book_file.specs.Books.{tables_in};
+    ghost use Rattle.book_file.specs.Table.{table_marks};
+
     // The entry of a table in the row of a state and the column of a tag: a tag that the file does not list has column 0.
+    // The place is computed, since the book answers from the file's own bytes, where row stands behind row.
     fn at_tag(&self, rows: &[u8], state: u16, tag: u8) -> u16
         requires state_lt_states { state < self.now.states }
         requires rows_len { length rows.now ≡ self.now.states * self.now.columns }
@@ -48,6 +52,18 @@ impl<'a> TableBook<'a> {
     {
         let column = if tag < self.columns { tag } else { 0 };
         u16::from(rows[usize::from(state) * usize::from(self.columns) + usize::from(column)])
+    }
+
+    // The same for any state and any tag: 0 where one is out of range.
+    fn answer(&self, rows: &[u8], state: u16, tag: u8) -> u16
+        requires { length rows.now ≡ self.now.states * self.now.columns }
+        ensures { result ≡ table_marks (tables_in self.now) rows.now state tag }
+    {
+        if state < self.states && tag < TAGS {
+            self.at_tag(rows, state, tag)
+        } else {
+            0
+        }
     }
 
     // The tree state of an item that closes.
@@ -71,7 +87,8 @@ impl<'a> TableBook<'a> {
 
 impl<'a> ShapeBook for TableBook<'a> {
     ghost use Rattle.book_file.specs.Books.{tables_in};
-    ghost use Rattle.book_file.specs.Table.{table_lawful, table_machine};
+    ghost use Rattle.book_file.specs.Table.{table_machine};
+    ghost use Rattle.book_file.specs.Ranges.{table_lawful};
 
     ghost machine = { λ b. table_machine (tables_in b) };
 
@@ -86,11 +103,7 @@ impl<'a> ShapeBook for TableBook<'a> {
     }
 
     fn enter(&self, state: u16, tag: u8) -> u16 {
-        if state < self.states && tag < TAGS {
-            self.at_tag(self.enter, state, tag)
-        } else {
-            0
-        }
+        self.answer(self.enter, state, tag)
     }
 
     fn back(&self, outer: u16, inner: u16, tag: u8) -> u16 {
@@ -108,7 +121,8 @@ impl<'a> ShapeBook for TableBook<'a> {
 
 impl<'a> ShapeBook for SelectingTableBook<'a> {
     ghost use Rattle.book_file.specs.Books.{tables_in};
-    ghost use Rattle.book_file.specs.Table.{table_lawful, table_machine};
+    ghost use Rattle.book_file.specs.Table.{table_machine};
+    ghost use Rattle.book_file.specs.Ranges.{table_lawful};
 
     ghost machine = { λ b. table_machine (tables_in b.shape) };
 
@@ -138,16 +152,13 @@ impl<'a> ShapeBook for SelectingTableBook<'a> {
 impl<'a> SelectingBook for SelectingTableBook<'a> {
     ghost use Rattle.book_file.specs.Books.{tables_in};
     ghost use Rattle.book_file.specs.Table.{table_marks};
+    ghost use Rattle.book_file.specs.Ranges.{table_marked};
 
     ghost marks = { λ b. table_marks (tables_in b.shape) b.mark.now };
 
-    fn marked(&self) {}
+    ghost lawful_marks = { λ b. table_marked (tables_in b.shape) b.mark.now b.marks };
 
     fn mark(&self, state: u16, tag: u8) -> u16 {
-        if state < self.shape.states && tag < TAGS {
-            self.shape.at_tag(self.mark, state, tag)
-        } else {
-            0
-        }
+        self.shape.answer(self.mark, state, tag)
     }
 }

@@ -12,7 +12,10 @@ pub fn width_and_clear(bytes: &mut [u8]) -> u16
     ensures after { bytes.new ≡ cleared bytes.old }
 {
     let width = match read_book(bytes) {
-        Ok(BookFile::Shape(file)) => file.book().width(),
+        Ok(BookFile::Shape(file)) => {
+            let book = file.book();
+            book.width()
+        }
         _ => 0,
     };
     if let Some(first) = bytes.first_mut() {

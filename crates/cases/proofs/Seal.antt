@@ -14,7 +14,7 @@ use Rattle.book.proofs.Fitting.{fits_by_test}
 use Rattle.book.proofs.Earliest.{not_two}
 use Rattle.book.proofs.ItemLists.{lists_alike}
 use Rattle.book.proofs.Exact.{just_newly}
-use Rattle.book_file.specs.Table.{table_lawful, table_marked}
+use Rattle.book_file.specs.Ranges.{table_lawful, table_marked}
 use Rattle.cases.specs.Seal.{seal_file, seal, boxed}
 use Rattle.cases.specs.Cases.{ItemsAre, HeldNumbers, SealCases}
 use Rattle.cases.proofs.Picks.{picks}

@@ -49,7 +49,6 @@ fn replay_all<B: SelectingBook>(book: B, exchanges: &mut [Exchange]) -> B
     ensures same { result ≡ book }
     ensures promise { Replayed (selecting (B.ShapeBook.machine book) (B.SelectingBook.marks book)) exchanges.old exchanges.new }
 {
-    book.marked();
     let ready = make_ready(book);
     let mut scan = Scan::begin(ready);
     for x in exchanges.iter_mut() {

@@ -134,7 +134,6 @@ impl<B: SelectingBook> Scan<B> {
     fn send(&mut self, call: Event, orders: &mut [Order]) -> Result<Totals, Refusal>
         ensures { Called (selecting (B.ShapeBook.machine self.old.ready.book) (B.SelectingBook.marks self.old.ready.book)) call self.old self.new orders.old orders.new result }
     {
-        self.ready.book().marked();
         self.make(call, orders)
     }
 

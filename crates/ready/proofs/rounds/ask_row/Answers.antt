@@ -11,7 +11,7 @@ use Rattle.ready.proofs.rounds.ask_row.Goals.{then-contains+then-not-contains, e
 pub loop-inner-preserved : goal.loop-inner-preserved
 loop-inner-preserved g c =
     let m = g.B.ShapeBook.machine c.args.book.now in
-    let law = g.B.ShapeBook.lawful c.args.book.now in
+    let law = g.met.B.ShapeBook.lawful c.args.book.now in
     let i = c.loop-inner.inner in
     let inv = c.loop-inner.invariant in
     elim c.if-contains.branch [

@@ -21,7 +21,7 @@ rounds-init g c =
 pub returns-then-round : goal.returns-then-round
 returns-then-round g c =
     let m = g.B.ShapeBook.machine c.args.book.now in
-    let law = g.B.ShapeBook.lawful c.args.book.now in
+    let law = g.met.B.ShapeBook.lawful c.args.book.now in
     let old = lies c.rounds.table.rows in
     let new = lies c.round.new.table.rows in
     let post = c.round.ensures.found in
@@ -44,7 +44,7 @@ rounds-preserved g c =
 pub rounds-smaller : goal.rounds-smaller
 rounds-smaller g c =
     let m = g.B.ShapeBook.machine c.args.book.now in
-    let law = g.B.ShapeBook.lawful c.args.book.now in
+    let law = g.met.B.ShapeBook.lawful c.args.book.now in
     let post = c.round.ensures.found in
     let more = c.if-round.ensures.last in
     let reached = post.found.sound more.0 more.1 more.3 in

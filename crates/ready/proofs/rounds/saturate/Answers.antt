@@ -6,7 +6,7 @@ use Rattle.ready.proofs.rounds.saturate.Goals as goal
 pub returns : goal.returns
 returns g c =
     let m = g.B.ShapeBook.machine c.args.book.now in
-    let law = g.B.ShapeBook.lawful c.args.book.now in
+    let law = g.met.B.ShapeBook.lawful c.args.book.now in
     let reach = lies c.find_pairs.result.rows in
     let fit = fits m reach c.find_pairs.ensures in
     record {

@@ -12,7 +12,7 @@ loop-state-init g c = admitted_none c.empty-found.result.words _ c.empty-found.e
 
 pub loop-state-preserved : goal.loop-state-preserved
 loop-state-preserved g c =
-    let law = g.B.ShapeBook.lawful c.args.book.now in
+    let law = g.met.B.ShapeBook.lawful c.args.book.now in
     let i = c.loop-state.state in
     let small : i < most_states = omega (arith, law.narrow, c.width-width.ensures) in
     elim c.if-not-contains.branch [

@@ -5,7 +5,7 @@ use Rattle.ready.proofs.entered.Entered.of.Goals as goal
 pub loop-place-preserved : goal.loop-place-preserved
 loop-place-preserved g c =
     let i = c.loop-place.place in
-    let law = g.B.ShapeBook.lawful c.args.book.now in
+    let law = g.met.B.ShapeBook.lawful c.args.book.now in
     let lt : i < length c.loop-place.states = omega (arith, law.narrow, c.width.ensures, c.loop-place.invariant.0) in (
       simp length-set c.loop-place.invariant.0,
       below_more _ _
