@@ -1,52 +1,41 @@
 // Says whether the book file `book.sel` in the working directory is right, and what is in it.
 #![tactic(auto)]
 
-ghost use Rattle.std.specs.Prelude.{◌≤◌, length};
+ghost use Rattle.std.specs.Prelude.{IfOk, IfSome, take};
+ghost use Rattle.std.specs.Io.{StartsWith};
 
-use anyhow::anyhow;
-use book_report::report::{Report, report_on};
-use std::fs;
-use std::io::{Read, Write};
+use anyhow::ensure;
+use book_report::report::report_on;
+use std::alloc::Global;
+use std::io::{ErrorKind, Read, Write};
+use std::{fs, io};
 
 // How much of the file is read.
-const LIMIT: usize = 32768;
+const LIMIT: u64 = 32768;
 
-// Reads until the buffer is full or nothing more comes, and says how many bytes it read.
-fn fill<R: Read>(from: &mut R, buf: &mut [u8]) -> usize
-    ensures { result ≤ length buf.new }
+// The first bytes that come; what came before a reader breaks off counts, and only want of memory is an error.
+fn first_bytes<R: Read + Drop>(heap: Global, from: R) -> io::Result<Vec<u8>>
+    ensures { IfOk result (λ v. IfSome (R.remaining from) (λ xs. StartsWith (take LIMIT xs) v.items)) }
 {
-    let mut have = 0;
-    'reads: for _ in 0..LIMIT {
-        if have >= buf.len() {
-            break;
-        }
-        match from.read(&mut buf[have..]) {
-            Ok(0) => break,
-            Ok(n) => have += n,
-            Err(_) => break,
-        }
+    let mut bytes = Vec::new(heap);
+    match from.take(LIMIT).read_to_end(&mut bytes) {
+        Err(error) if error.kind() == ErrorKind::OutOfMemory => Err(error),
+        _ => Ok(bytes),
     }
-    have
 }
 
 // The first bytes of a file; one that is missing or cannot be read is empty.
-fn read_start(rt: &HostRuntime, path: &str, buf: &mut [u8]) -> usize
-    ensures { result ≤ length buf.new }
-{
+fn read_start(rt: &HostRuntime, path: &str) -> io::Result<Vec<u8>> {
     match fs::open(rt, path) {
-        Ok(mut file) => fill(&mut file, buf),
-        Err(_) => 0,
+        Ok(file) => first_bytes(rt.alloc(), file),
+        Err(_) => Ok(Vec::new(rt.alloc())),
     }
 }
 
 fn main(rt: HostRuntime) -> anyhow::Result<()> {
-    let mut buf = [0u8; LIMIT];
-    let size = read_start(&rt, "book.sel", &mut buf);
-    let Report { printed, refused } = report_on(rt.alloc(), &buf[0..size])?;
-    rt.stdout().write_all(printed.as_slice())?;
-    if refused {
-        Err(anyhow!("the book file is refused"))
-    } else {
-        Ok(())
-    }
+    let bytes = read_start(&rt, "book.sel")?;
+    let report = report_on(rt.alloc(), bytes.as_slice())?;
+    rt.stdout().write_all(report.printed.as_slice())?;
+    ensure!(report.fault.is_none(), "the book file is refused");
+    Ok(())
 }

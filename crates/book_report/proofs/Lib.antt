@@ -1,2 +1,1 @@
-mod Described
-mod Members
+pub mod Printed

@@ -1,98 +1,71 @@
 // The lines that say what is in a book file.
 ghost use Rattle.std.specs.Prelude.{◌≡◌, ◌-◌, ◌++◌, OnOk};
-ghost use Rattle.book_file.specs.Names.{listed, spelt};
-ghost use Rattle.book_file.specs.Parts.{shape_tables};
-ghost use Rattle.book_report.specs.Reach.{or_none};
-ghost use Rattle.book_report.specs.Lines.{accepting_line, accepting_states, name_line, name_lines, number_lines, shape_lines, state_word};
+ghost use Rattle.book_file.specs.Books.{tables_in};
+ghost use Rattle.book_file.specs.Names.{listed, name_of};
+ghost use Rattle.book_report.specs.Lines.{accepting_line, name_line, name_lines, number_lines, shape_lines};
 
-use book_file::file::ShapeFile;
+use crate::states::{OrNone, states_that};
+use book::shape_book::ShapeBook;
 use book_file::names::Names;
-use printing::{add_fact, add_number};
-use std::alloc::{AllocError, Global};
+use book_file::table::TableBook;
+use printing::Page;
+use std::alloc::AllocError;
 
-// The number of a state, behind a space, where it accepts.
-fn add_state(out: &mut Vec<u8>, heap: Global, state: usize, accepts: u8) -> Result<(), AllocError>
-    ensures { OnOk result (out.new.items ≡ out.old.items ++ state_word state accepts) }
+fn add_numbers(page: &mut Page, book: &TableBook<'_>) -> Result<(), AllocError>
+    ensures { OnOk result (page.new ≡ page.old ++ number_lines (tables_in book.now)) }
 {
-    if accepts != 1 {
-        return Ok(());
-    }
-    out.extend_from_slice(b" ")?;
-    add_number(out, heap, state)?;
-    Ok(())
+    let TableBook {
+        states,
+        trees,
+        columns,
+        start,
+        ..
+    } = book;
+    writeln!(
+        page,
+        "states {states}\ntree states {trees}\ntags {columns}\nstart {start}"
+    )
 }
 
-fn add_states(out: &mut Vec<u8>, heap: Global, accept: &[u8]) -> Result<(), AllocError>
-    ensures { OnOk result (out.new.items ≡ out.old.items ++ accepting_states 0 accept.now) }
+// The states that accept, or that there is none.
+fn add_accepting(page: &mut Page, book: &TableBook<'_>) -> Result<(), AllocError>
+    ensures { OnOk result (page.new ≡ page.old ++ accepting_line book.now.accept.now) }
 {
-    'states: for state in 0..accept.len() {
-        add_state(out, heap, state, accept[state])?;
-    }
-    Ok(())
+    let accepting = states_that(page.heap(), book.states, |state| book.accepts(state))?;
+    let accepting = OrNone(accepting.as_slice());
+    writeln!(page, "accepting{accepting}")
 }
 
-// The same, or the word none.
-fn add_some_states(out: &mut Vec<u8>, heap: Global, accept: &[u8]) -> Result<(), AllocError>
-    ensures { OnOk result (out.new.items ≡ out.old.items ++ or_none (accepting_states 0 accept.now)) }
+// A tag and its name, where it has one.
+fn add_name(page: &mut Page, names: &Names<'_>, tag: u8) -> Result<(), AllocError>
+    ensures { OnOk result (page.new ≡ page.old ++ name_line tag (name_of (listed names.now) tag)) }
 {
-    let before = out.len();
-    add_states(out, heap, accept)?;
-    if out.len() > before {
-        return Ok(());
-    }
-    out.extend_from_slice(b" none")?;
-    Ok(())
-}
-
-fn add_accepting(out: &mut Vec<u8>, heap: Global, accept: &[u8]) -> Result<(), AllocError>
-    ensures { OnOk result (out.new.items ≡ out.old.items ++ accepting_line accept.now) }
-{
-    out.extend_from_slice(b"accepting")?;
-    add_some_states(out, heap, accept)?;
-    out.extend_from_slice(b"\n")?;
-    Ok(())
-}
-
-// A tag and its name.
-fn add_name(out: &mut Vec<u8>, heap: Global, tag: u8, name: Option<&[u8]>) -> Result<(), AllocError>
-    ensures { OnOk result (out.new.items ≡ out.old.items ++ name_line tag (spelt name.entry)) }
-{
-    let Some(name) = name else {
+    let Some(name) = names.name_of(tag) else {
         return Ok(());
     };
-    out.extend_from_slice(b"tag ")?;
-    add_number(out, heap, tag as usize)?;
-    out.extend_from_slice(b" ")?;
-    out.extend_from_slice(name)?;
-    out.extend_from_slice(b"\n")?;
-    Ok(())
+    write!(page, "tag {tag} ")?;
+    page.add_bytes(name)?;
+    writeln!(page)
 }
 
-fn add_names(out: &mut Vec<u8>, heap: Global, columns: u8, names: &Names) -> Result<(), AllocError>
-    ensures { OnOk result (out.new.items ≡ out.old.items ++ name_lines 1 (columns - 1) (listed names.now)) }
+fn add_names(page: &mut Page, book: &TableBook<'_>, names: &Names<'_>) -> Result<(), AllocError>
+    ensures { OnOk result (page.new ≡ page.old ++ name_lines book.now.columns (listed names.now)) }
 {
-    'tags: for tag in 1..columns {
-        add_name(out, heap, tag, names.name_of(tag))?;
+    for tag in 1..book.columns {
+        add_name(page, names, tag)?;
     }
-    Ok(())
-}
-
-fn add_numbers(out: &mut Vec<u8>, heap: Global, file: &ShapeFile) -> Result<(), AllocError>
-    ensures { OnOk result (out.new.items ≡ out.old.items ++ number_lines (shape_tables file.now)) }
-{
-    add_fact(out, heap, b"states", file.states as usize)?;
-    add_fact(out, heap, b"tree states", file.trees as usize)?;
-    add_fact(out, heap, b"tags", file.columns as usize)?;
-    add_fact(out, heap, b"start", file.start as usize)?;
     Ok(())
 }
 
 // All but the kind.
-pub(crate) fn add_shape(out: &mut Vec<u8>, heap: Global, file: &ShapeFile) -> Result<(), AllocError>
-    ensures { OnOk result (out.new.items ≡ out.old.items ++ shape_lines (shape_tables file.now) (listed file.now.names)) }
+pub(crate) fn add_shape(
+    page: &mut Page,
+    book: &TableBook<'_>,
+    names: &Names<'_>,
+) -> Result<(), AllocError>
+    ensures { OnOk result (page.new ≡ page.old ++ shape_lines (tables_in book.now) (listed names.now)) }
 {
-    add_numbers(out, heap, file)?;
-    add_accepting(out, heap, file.accept)?;
-    add_names(out, heap, file.columns, &file.names)?;
-    Ok(())
+    add_numbers(page, book)?;
+    add_accepting(page, book)?;
+    add_names(page, book, names)
 }

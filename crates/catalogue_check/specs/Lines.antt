@@ -1,11 +1,13 @@
 -- What is printed of a text: a line for each tag, indented by its depth, and how the text ends.
-use Rattle.std.specs.Prelude.{◌≡◌, ℕ, zero, suc, ◌+◌, ◌-◌, Bool, true, false, List, [], ◌∷◌, ◌++◌, length, vec_items, codes, decimal}
-use Rattle.catalogue_check.specs.declared.report.Report.{Report}
+use Rattle.std.specs.Prelude.{◌≡◌, ℕ, zero, suc, ◌+◌, ◌-◌, List, [], ◌∷◌, ◌++◌, length, vec_items, codes, decimal}
 use Rattle.markup.specs.Grammar.{Tag, closes, opens}
 use Rattle.markup.specs.Reading.{Ending, Reading, failed, finish, reading}
 use Rattle.markup.specs.Tokens.{part}
+use Rattle.markup.specs.Whole.{ending}
+use Rattle.markup.specs.declared.fault.ReaderFault.{ReaderFault}
 use Rattle.markup.specs.declared.token.Token.{Token}
 use Rattle.markup.specs.declared.token.Token.TheVariants.{Close, Finish, Open}
+use Rattle.printing.specs.declared.Report.{Report}
 
 -- two spaces for each level
 abbrev pub indent : ℕ → List ℕ
@@ -29,12 +31,8 @@ last_line n (failed k p) = codes "refused " ++ (decimal k ++ (codes " at " ++ (d
 abbrev pub report : List ℕ → Reading → List ℕ
 report s r = lines s 0 r.given ++ last_line (length r.given) r.ended
 
-abbrev pub refuses : Ending → Bool
-refuses finish = false
-refuses (failed n p) = true
-
-abbrev pub Reports : List ℕ → Report → Type 0
-Reports s p = (vec_items p.printed ≡ report s (reading s)) × (p.refused ≡ refuses (reading s).ended)
+abbrev pub Reports : List ℕ → Report ReaderFault → Type 0
+Reports s p = (vec_items p.printed ≡ report s (reading s)) × (ending p.fault ≡ (reading s).ended)
 
 -- The same lines from the tokens, which show their names.
 abbrev pub token_line : ℕ → Token → List ℕ

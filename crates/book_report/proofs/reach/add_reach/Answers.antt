@@ -1,24 +1,30 @@
-use Rattle.std.proofs.Common.{◌++◌, vec_items, ap, ◌∙◌}
+use Rattle.std.proofs.Common.{◌≡◌, ℕ, true, ◌↔◌, ◌++◌, ap, ◌∙◌, append_assoc, subst}
+use Rattle.std.proofs.lemmas.Result.{on_ok_weaker}
+use Rattle.ready.specs.Dead.{Useless}
 use Rattle.ready.specs.Pairs.{lies}
 use Rattle.ready.specs.Sets.{has}
-use Rattle.printing.proofs.Added.{added}
-use Rattle.book_report.specs.Reach.{row_lines, useless_line}
+use Rattle.book_report.specs.Reach.{Shown, row_lines, useless_line}
 use Rattle.book_report.proofs.reach.add_reach.Goals as goal
 
 pub returns : goal.returns
 returns g c =
-    let m = g.B.ShapeBook.machine c.args.ready.now.book in
-    let reach = lies c.args.ready.now.reach.rows in
-    let useless = has c.useless_states-useless.result.words in
+    let ready = c.make_ready-ready.result in
+    let reach = lies ready.reach.rows in
+    let useless = has c.useless_states.result.words in
     let w = c.width-width.result in
-    let width = c.width-width.ensures ∙ ap (λ b. (g.B.ShapeBook.machine b).width) c.book.ensures in
-    let out = vec_items c.args.out.now in
-    record {
+    let page = c.args.page.now in
+    let book = c.make_ready-ready.ensures.book in
+    let width = c.width-width.ensures ∙ ap (λ b. (g.B.ShapeBook.machine b).width) (c.book.ensures ∙ book) in
+    on_ok_weaker {Q = Shown (g.B.ShapeBook.machine c.args.book) page c.add_useless.new.page} _
+    (λ e. record {
       reach = reach;
-      rows = c.requires;
+      rows = c.make_ready-ready.ensures.reach;
       useless = useless;
-      never = c.useless_states-useless.ensures c.requires;
+      never = subst (λ b. (q : ℕ) → (useless q ≡ true) ↔ Useless (g.B.ShapeBook.machine b) q) book c.useless_states.ensures;
       printed =
-          added out (row_lines reach w 0 w) (useless_line useless w) c.in_ok-add_rows.ensures c.in_ok-add_useless.ensures
-          ∙ ap (λ n. out ++ (row_lines reach n 0 n ++ useless_line useless n)) width;
-    }
+          e
+          ∙ ap (λ p. p ++ useless_line useless w) c.in_ok-add_rows.ensures
+          ∙ append_assoc page (row_lines reach w) (useless_line useless w)
+          ∙ ap (λ n. page ++ (row_lines reach n ++ useless_line useless n)) width;
+    })
+    c.add_useless.ensures

@@ -1,7 +1,8 @@
-use Rattle.std.proofs.Common.{◌≡◌, ◌-◌, ◌++◌, vec_items}
-use Rattle.ready.specs.Pairs.{lies}
-use Rattle.book_report.specs.Reach.{row_lines}
+use Rattle.book_report.specs.Reach.{row_line}
 use Rattle.book_report.proofs.reach.add_rows.Given as goal
+use Rattle.ready.specs.Pairs.{lies}
+use Rattle.std.proofs.Common.{◌≡◌, ◌++◌}
+use Rattle.std.specs.List.{flat_map, range_with_len}
 
-abbrev pub invariant-rows : goal.invariant-rows
-invariant-rows g l = vec_items l.out ++ row_lines (lies l.ready.reach.rows) l.width l.state (l.width - l.state) ≡ vec_items l.initial.out ++ row_lines (lies l.ready.reach.rows) l.width 0 l.width
+abbrev pub invariant-loop-state : goal.invariant-loop-state
+invariant-loop-state g l = l.page ≡ l.initial.page ++ flat_map (λ k. row_line (lies l.ready.reach.rows k) l.width k) (range_with_len 0 l.state)
