@@ -1,6 +1,9 @@
 // Why a text is refused, and where.
-ghost use Rattle.markup.specs.Faults.{fault_number, fault_place};
-ghost use Rattle.std.specs.Prelude.{◌≡◌};
+ghost use Rattle.markup.specs.Faults.{fault_number, fault_place, fault_text};
+ghost use Rattle.std.specs.Prelude.{◌≡◌, Some};
+
+use std::error::Error;
+use std::fmt;
 
 #[derive(Clone, Copy, Debug, PartialEq, Eq)]
 pub enum ReaderFault {
@@ -35,10 +38,22 @@ impl ReaderFault {
     {
         match self {
             ReaderFault::CutOff { length } => length,
-            ReaderFault::Byte { at } => at,
-            ReaderFault::OtherForm { at } => at,
-            ReaderFault::LongName { at } => at,
-            ReaderFault::Reference { at } => at,
+            ReaderFault::Byte { at }
+            | ReaderFault::OtherForm { at }
+            | ReaderFault::LongName { at }
+            | ReaderFault::Reference { at } => at,
         }
     }
 }
+
+impl fmt::Display for ReaderFault {
+    ghost output = { λ fault. Some (fault_text fault) };
+
+    fn fmt<W: fmt::Write>(&self, f: &mut fmt::Formatter<W>) -> fmt::Result {
+        let number = self.number();
+        let place = self.place();
+        write!(f, "refused {number} at {place}")
+    }
+}
+
+impl Error for ReaderFault {}
