@@ -1,16 +1,16 @@
 -- Steps from one cursor to the next, joined to longer ones.
-use Rattle.std.proofs.Common.{◌≡◌, ℕ, zero, suc, ◌+◌, ◌-◌, ◌<◌, ◌≤◌, Bool, true, false, ◌⊎◌, List, [], ◌∷◌, length, get_or, drop, Ok, Err, Result, sym, refl, ap, ◌∙◌, subst, inl, inr, arith, length-drop, Some, None, Option, MatchOption, unwrap_or}
+use Rattle.std.proofs.Common.{◌≡◌, ℕ, suc, ◌+◌, ◌-◌, ◌<◌, ◌≤◌, Bool, true, false, ◌⊎◌, List, [], length, get_or, drop, Ok, Err, Result, sym, refl, ap, ◌∙◌, subst, inl, inr, arith, length-drop, Some, None, Option, MatchOption, unwrap_or}
 use Rattle.std.proofs.lemmas.List.{get_or-drop}
 use Rattle.std.specs.List.{AllWithin, HoldsAt}
 use Rattle.markup.specs.Grammar.{Tag, white}
 use Rattle.name_bytes.specs.Names.{name_byte}
 use Rattle.std.proofs.lemmas.Bool.{cases_lt, both_ways}
-use Rattle.markup.specs.Reading.{Mode, Step, go, stop, on, next, over, in_text, naming, naming_attribute, naming_end, attribute_named, valued, spaced, end_spaced, shut, carried, Ending, Reading, failed, giving, read}
+use Rattle.markup.specs.Reading.{Mode, go, stop, on, next, over, in_text, naming, naming_attribute, naming_end, attribute_named, valued, spaced, end_spaced, shut, carried, Ending, Reading, failed, giving}
 use Rattle.markup.specs.Faults.{fault_number, fault_place, fault_ending}
-use Rattle.markup.specs.Parts.{from, left, HasByte, here, Cut, Goes, Fails, Way, Takes, Skipped, Naming, Named}
+use Rattle.markup.specs.Parts.{from, left, HasByte, here, Cut, Goes, Fails, Way, Skipped, Naming, Named}
 use Rattle.markup.specs.declared.cursor.Cursor.{Cursor}
 use Rattle.markup.specs.declared.fault.ReaderFault.{ReaderFault}
-use Rattle.markup.specs.declared.fault.ReaderFault.TheVariants.{CutOff, LongName}
+use Rattle.markup.specs.declared.fault.ReaderFault.TheVariants.{LongName}
 use Rattle.markup.proofs.Slices.{at_byte, at_on, at_stop, at_end, runs_on, Stays, spacing, spacing_on, spacing_more, naming_attr, naming_start, naming_ends, name_ended, tag_named, end_named}
 
 -- the same place of the same text

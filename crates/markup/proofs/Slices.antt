@@ -2,7 +2,7 @@
 use Rattle.std.proofs.Common.{◌≡◌, ℕ, zero, suc, ◌+◌, ◌<◌, ◌≤◌, Bool, true, false, cond, eqb, ltb, ◌||◌, ◌⊎◌, List, [], ◌∷◌, length, get_or, drop, sym, refl, ap, ◌∙◌, inl, inr, add-one, arith, drop-cons}
 use Rattle.std.proofs.lemmas.List.{drop_all}
 use Rattle.std.proofs.lemmas.Bool.{eq-eqb, eqb-true, ne_eqb, or_cases, cond-true, cond-false, lt-ltb, le-ltb, cases_lt}
-use Rattle.markup.specs.Reading.{Where, text, value, stop_of, Mode, ampersand, awaiting, in_content, naming, spaced, slashed, shut, behind, naming_attribute, attribute_named, equals, valued, naming_end, end_spaced, Step, stop, on, next, over, Ending, failed, carried, read}
+use Rattle.markup.specs.Reading.{Where, text, value, stop_of, Mode, ampersand, awaiting, in_content, naming, spaced, shut, naming_attribute, attribute_named, equals, valued, naming_end, end_spaced, Step, stop, on, next, over, Ending, failed, carried, read}
 use Rattle.name_bytes.specs.Names.{name_start, name_byte}
 use Rattle.markup.specs.Grammar.{plain, white, Quote, single, double, sign}
 use Rattle.markup.proofs.ByteClasses.{start_no_white}

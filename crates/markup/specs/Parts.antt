@@ -8,8 +8,8 @@ use Rattle.markup.specs.declared.tag.TagKind.{TagKind}
 use Rattle.markup.specs.declared.tag.TagKind.TheVariants.{Start, Empty, End}
 use Rattle.markup.specs.declared.tag.TagPlaces.{TagPlaces}
 use Rattle.name_bytes.specs.Names.{name_byte, name_limit}
-use Rattle.markup.specs.Grammar.{plain, Quote, sign, Tag, opens, closes}
-use Rattle.markup.specs.Reading.{Where, text, stop_of, Mode, in_content, in_text, awaiting, value, equals, valued, naming, naming_attribute, shut, slash, carried, giving, stop, on, next, finish, Reading, read}
+use Rattle.markup.specs.Grammar.{plain, sign, Tag, opens, closes}
+use Rattle.markup.specs.Reading.{Where, stop_of, Mode, in_content, in_text, awaiting, equals, valued, naming, naming_attribute, shut, slash, carried, giving, stop, on, next, finish, Reading, read}
 use Rattle.markup.specs.Faults.{fault_ending}
 
 -- ## Places

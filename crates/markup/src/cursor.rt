@@ -5,7 +5,7 @@ use crate::fault::ReaderFault;
 
 // Everything before the place has been read.
 #[derive(Clone, Copy)]
-pub struct Cursor<'a> {
+pub(crate) struct Cursor<'a> {
     pub text: &'a [u8],
     pub place: usize,
     ghost inside: { place ≤ length text.now },

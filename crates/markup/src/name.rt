@@ -13,7 +13,8 @@ impl<'a> Cursor<'a> {
     {
         let from = self.place;
         self.skip(is_name_byte);
-        if self.place - from >= NAME_LIMIT {
+        let count = self.place - from;
+        if count >= NAME_LIMIT {
             return Err(ReaderFault::LongName {
                 at: from + NAME_LIMIT - 1,
             });

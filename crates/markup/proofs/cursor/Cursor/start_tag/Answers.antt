@@ -1,12 +1,11 @@
 -- What is left to show of `start_tag` in src/tag.rt.
-use Rattle.std.proofs.Common.{◌≡◌, ◌≤◌, ◌+◌, ◌-◌, length, [], ◌∷◌, eqb, false, ap, refl, ◌∙◌, arith, rules}
+use Rattle.std.proofs.Common.{◌≡◌, ◌≤◌, ◌+◌, ◌-◌, length, [], ◌∷◌, eqb, ap, refl, ◌∙◌, arith, rules}
 use Rattle.std.proofs.lemmas.Bool.{cond-false}
 use Rattle.std.proofs.lemmas.Result.{err_from_is_err_and}
 use Rattle.markup.specs.Grammar.{closes, opens}
-use Rattle.markup.specs.Parts.{from, here, left, tags_of}
+use Rattle.markup.specs.Parts.{from, here, left}
 use Rattle.markup.specs.Reading.{carried, giving, in_text, naming, next, shut, slashed}
 use Rattle.markup.specs.declared.cursor.Cursor.{Cursor}
-use Rattle.markup.specs.declared.tag.TagKind.TheVariants.{Empty, Start}
 use Rattle.markup.proofs.Cursors.{byte_tells, goes_named, refused}
 use Rattle.markup.proofs.Slices.{naming_start, refuses_shut}
 use Rattle.markup.proofs.cursor.Cursor.start_tag.Goals as goal
