@@ -11,8 +11,8 @@ const NAME: u8 = 1;
 // The byte is data: allowed, and neither `<` nor `&`.
 const DATA: u8 = 2;
 
-// For each byte a digit, whose low two bits are the flags above. A look-up reads a text of 64 MiB in 98 ms; comparisons in its
-// place took 143 ms.
+// For each byte a digit, whose low two bits are the flags above. With comparisons in place of the look-ups a catalogue took half
+// as long again to read.
 const CLASS: [u8; 256] = *b"\
     00000000022002000000000000000000\
     22222202222223323333333333320222\

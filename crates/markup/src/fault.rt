@@ -20,6 +20,7 @@ pub enum ReaderFault {
 }
 
 impl ReaderFault {
+    // The number that is printed and that C programs get. The numbers stand here, since a variant with a field has none that `as` could read.
     pub fn number(self) -> u32
         ensures { result ≡ fault_number self }
     {

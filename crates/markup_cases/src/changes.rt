@@ -19,6 +19,7 @@ pub(crate) fn note_prefixes(text: &[u8]) -> Counts {
 // How each text ends that differs from the text in one byte; the text is as before at the end.
 pub(crate) fn note_changes(text: &mut [u8]) -> Counts {
     let mut counts = Counts::default();
+    // by index, since the whole text is read between two writes of a byte
     for i in 0..text.len() {
         let was = text[i];
         for b in 0..=255u8 {

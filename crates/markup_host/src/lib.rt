@@ -1,4 +1,5 @@
-// The reader for host programs: how the reading of a text ends, and how many tags it gives.
+// The reader for host programs: how the reading of a text ends, and how many tags it gives. `summarize` has the fault as it is; the
+// other functions are what C programs can take, numbers.
 #![tactic(auto)]
 
 ghost use Rattle.markup.specs.Reading.{reading};
