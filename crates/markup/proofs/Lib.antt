@@ -8,4 +8,5 @@ pub mod Tracked
 pub mod Refused
 pub mod OneReading
 pub mod Slices
+pub mod Cursors
 pub mod Shown

@@ -1,15 +1,21 @@
 -- Tokens that show the tags of a reading, one more at a time.
-use Rattle.std.proofs.Common.{◌≡◌, ℕ, ◌+◌, true, false, List, [], ◌∷◌, ◌++◌, length, Ok, refl, ap, ◌∙◌, subst, append-nil, arith}
+use Rattle.std.proofs.Common.{◌≡◌, ℕ, ◌+◌, Bool, true, false, List, [], ◌∷◌, ◌++◌, length, Ok, refl, ap, ◌∙◌, subst, append-nil}
 use Rattle.markup.proofs.OneReading.{reads}
 use Rattle.markup.proofs.RightTexts.{giving_giving}
 use Rattle.markup.specs.Grammar.{Tag, closes, opens}
 use Rattle.markup.specs.Law.{Reads}
-use Rattle.markup.specs.Reading.{Ending, Reading, finish, giving, reading}
+use Rattle.markup.specs.Reading.{Ending, Reading, giving, reading}
 use Rattle.markup.specs.Tokens.{Gives, remaining}
-use Rattle.markup.specs.Whole.{AllShown, Shows, finishes}
+use Rattle.markup.specs.Whole.{AllShown, Shows}
 use Rattle.markup.specs.declared.reader.Reader.{Reader}
 use Rattle.markup.specs.declared.token.Token.{Token}
 use Rattle.markup.specs.declared.token.Token.TheVariants.{Close, Finish, Open}
+
+-- whether a token is the finish
+abbrev pub finishes : Token → Bool
+finishes (Open name at) = false
+finishes (Close name at) = false
+finishes Finish = true
 
 pub all_shown_more : (s : List ℕ) (ts : List Tag) (xs : List Token) (t : Tag) (x : Token) → AllShown s ts xs → Shows s t x → AllShown s (ts ++ (t ∷ [])) (xs ++ (x ∷ []))
 all_shown_more s [] [] t x a h = (h, tt)
@@ -18,16 +24,10 @@ all_shown_more s (u ∷ ts) [] t x a h = absurd a
 all_shown_more s (u ∷ ts) (y ∷ ys) t x (b, a) h = (b, all_shown_more s ts ys t x a h)
 
 -- what a call gives, where it is a tag
-pub gives_tag : (b a : Reader) (x : Token) → Gives b (Ok x) a → finishes x ≡ false → (t : Tag) × Shows b.text.now t x × (remaining b ≡ giving (t ∷ []) (remaining a))
+pub gives_tag : (b a : Reader) (x : Token) → Gives b (Ok x) a → finishes x ≡ false → (t : Tag) × Shows b.cursor.text.now t x × (remaining b ≡ giving (t ∷ []) (remaining a))
 gives_tag b a (Open name at) (e, n) f = (opens at (at + 1) (length name.now), (refl, n), e)
 gives_tag b a (Close name at) (p, e, n) f = (closes at p (length name.now), (refl, n), e)
-gives_tag b a Finish g f = absurd (let z : ◌≡◌ {A = ℕ} 0 1 = cc in omega arith)
-
--- and where it is the finish
-pub gives_finish : (b a : Reader) (x : Token) → Gives b (Ok x) a → finishes x ≡ true → remaining b ≡ record { given = []; ended = finish }
-gives_finish b a (Open name at) g f = absurd (let z : ◌≡◌ {A = ℕ} 0 1 = cc in omega arith)
-gives_finish b a (Close name at) g f = absurd (let z : ◌≡◌ {A = ℕ} 0 1 = cc in omega arith)
-gives_finish b a Finish g f = g.0
+gives_tag b a Finish g f = cc
 
 -- the first tag of what is left joins those that were given
 pub giving_more : (whole : Reading) (ts : List Tag) (t : Tag) (r r' : Reading) → whole ≡ giving ts r → r ≡ giving (t ∷ []) r' → whole ≡ giving (ts ++ (t ∷ [])) r'

@@ -1,36 +1,29 @@
--- The table of classes of bytes by its runs, and a test of every byte.
-use Rattle.std.proofs.Common.{◌≡◌, ℕ, zero, suc, ◌<◌, Bool, true, false, ◌&&◌, List, [], ◌++◌, replicate, sym, refl, subst, inl, inr, arith}
+-- The table of classes of bytes is held against a definition at each byte.
+use Rattle.std.proofs.Common.{◌≡◌, ℕ, zero, suc, ◌<◌, Bool, true, false, ◌&&◌, not, nat_eq, bit_and, get_or, List, refl, subst, inl, inr, arith}
 use Rattle.std.proofs.lemmas.Bool.{and_parts, cases_lt}
+use Rattle.std.specs.Bool.{beq}
 
-abbrev pub same : Bool → Bool → Bool
-same true true = true
-same true false = false
-same false true = false
-same false false = true
-
-pub same_is : (a b : Bool) → same a b ≡ true → a ≡ b
+same_is : (a b : Bool) → beq a b ≡ true → a ≡ b
 same_is true true h = refl
-same_is true false h = sym h
-same_is false true h = h
+same_is true false h = cc
+same_is false true h = cc
 same_is false false h = refl
 
-abbrev pub every_below : ℕ → (ℕ → Bool) → Bool
-every_below zero p = true
-every_below (suc n) p = p n && every_below n p
+-- two tests of a byte agree below n
+unfoldable pub agree_below : (ℕ → Bool) → (ℕ → Bool) → ℕ → Bool
+agree_below f g zero = true
+agree_below f g (suc n) = beq (f n) (g n) && agree_below f g n
 
-pub each : (n : ℕ) (p : ℕ → Bool) → every_below n p ≡ true → (k : ℕ) → k < n → p k ≡ true
-each zero p h k lt = absurd (omega arith)
-each (suc n) p h k lt =
-    let a = and_parts (p n) (every_below n p) h in
-    elim (cases_lt k n) [ inl b ↦ each n p a.1 k b | inr b ↦ subst (λ (j : ℕ). p j ≡ true) (let e : n ≡ k = omega arith in e) a.0 ]
+agree_at : (f g : ℕ → Bool) (n : ℕ) → agree_below f g n ≡ true → (b : ℕ) → b < n → f b ≡ g b
+unfolding agree_below
+agree_at f g zero h b lt = absurd (omega arith)
+agree_at f g (suc n) h b lt =
+    let a = and_parts (beq (f n) (g n)) (agree_below f g n) h in
+    elim (cases_lt b n) [ inl k ↦ agree_at f g n a.1 b k | inr k ↦ subst (λ (j : ℕ). f j ≡ g j) (let e : n ≡ b = omega arith in e) (same_is (f n) (g n) a.0) ]
 
--- so many bytes of one class, and the classes behind them
-abbrev run : ℕ → ℕ → List ℕ → List ℕ
-run n x rest = replicate n x ++ rest
+-- a byte's entry has the flag
+abbrev pub has_flag : List ℕ → ℕ → ℕ → Bool
+has_flag table flag b = not (nat_eq (bit_and (get_or table b 0) flag) 0)
 
-abbrev pub class_table : List ℕ
-class_table =
-    run 9 0 (run 2 25 (run 2 0 (run 1 25 (run 18 0 (run 1 25 (
-    run 5 24 (run 1 8 (run 6 24 (run 2 28 (run 1 24 (run 10 28 (
-    run 1 30 (run 1 24 (run 1 8 (run 4 24 (run 26 30 (run 4 24 (
-    run 1 30 (run 1 24 (run 26 30 (run 133 24 [])))))))))))))))))))))
+pub from_table : (table : List ℕ) (flag : ℕ) (test : ℕ → Bool) (b : ℕ) → b < 256 → agree_below (has_flag table flag) test 256 ≡ true → has_flag table flag b ≡ test b
+from_table table flag test b lt h = agree_at (has_flag table flag) test 256 h b lt

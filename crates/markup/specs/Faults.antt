@@ -1,5 +1,5 @@
--- The number and the place of each fault of a text.
-use Rattle.std.specs.Prelude.{ℕ}
+-- The number, the place and the text of each fault of a catalogue text.
+use Rattle.std.specs.Prelude.{ℕ, List, ◌++◌, codes, decimal}
 use Rattle.markup.specs.Reading.{Ending, failed}
 use Rattle.markup.specs.declared.fault.ReaderFault.{ReaderFault}
 use Rattle.markup.specs.declared.fault.ReaderFault.TheVariants.{CutOff, Byte, OtherForm, LongName, Reference}
@@ -22,3 +22,6 @@ fault_place (Reference p) = p
 -- the ending of a reading that the fault is
 abbrev pub fault_ending : ReaderFault → Ending
 fault_ending f = failed (fault_number f) (fault_place f)
+
+abbrev pub fault_text : ReaderFault → List ℕ
+fault_text f = codes "refused " ++ (decimal (fault_number f) ++ (codes " at " ++ decimal (fault_place f)))

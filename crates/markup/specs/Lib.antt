@@ -7,4 +7,3 @@ pub mod Parts
 pub mod Pending
 pub mod Tokens
 pub mod Whole
-pub mod Classes

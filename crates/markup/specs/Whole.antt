@@ -1,5 +1,5 @@
 -- A whole text by its tokens: what each shows of the text, and that they are those of the law.
-use Rattle.std.specs.Prelude.{◌≡◌, ℕ, Bool, true, false, List, [], ◌∷◌, Some, None, vec_items, Option}
+use Rattle.std.specs.Prelude.{◌≡◌, ℕ, List, [], ◌∷◌, Some, None, vec_items, Option}
 use Rattle.markup.specs.Faults.{fault_ending}
 use Rattle.markup.specs.Grammar.{Tag, closes, opens}
 use Rattle.markup.specs.Law.{Reads}
@@ -9,11 +9,6 @@ use Rattle.markup.specs.declared.fault.ReaderFault.{ReaderFault}
 use Rattle.markup.specs.declared.token.Token.{Token}
 use Rattle.markup.specs.declared.token.Token.TheVariants.{Close, Finish, Open}
 use Rattle.markup.specs.declared.whole_text.WholeText.{WholeText}
-
-abbrev pub finishes : Token → Bool
-finishes (Open name at) = false
-finishes (Close name at) = false
-finishes Finish = true
 
 -- a token shows a tag: an open or a close, the place of the `<`, and the very part of the text that is the name
 abbrev pub Shows : List ℕ → Tag → Token → Type 0

@@ -1,46 +1,50 @@
-// Classes of bytes, by one table.
-ghost use Rattle.markup.specs.Classes.{Classes};
+// Classes of bytes.
 ghost use Rattle.markup.specs.Grammar.{allowed, data_byte, plain, white};
-ghost use Rattle.name_bytes.specs.Names.{name_byte, name_start};
+ghost use Rattle.name_bytes.specs.Names.{name_byte};
 ghost use Rattle.std.specs.Prelude.{◌≡◌};
 
-use crate::class_table::CLASS;
+pub(crate) use name_bytes::is_name_start;
 
-// All classes of a byte, as a sum.
-fn class_of(b: u8) -> u8
-    ensures { Classes b result }
-{
-    CLASS[b as usize]
-}
+// A name may go on with the byte.
+const NAME: u8 = 1;
+
+// The byte is data: allowed, and neither `<` nor `&`.
+const DATA: u8 = 2;
+
+// For each byte a digit, whose low two bits are the flags above. With comparisons in place of the look-ups a catalogue took half
+// as long again to read.
+const CLASS: [u8; 256] = *b"\
+    00000000022002000000000000000000\
+    22222202222223323333333333320222\
+    23333333333333333333333333322223\
+    23333333333333333333333333322222\
+    22222222222222222222222222222222\
+    22222222222222222222222222222222\
+    22222222222222222222222222222222\
+    22222222222222222222222222222222";
 
 pub(crate) fn is_white(b: u8) -> bool
     ensures { result ≡ white b }
 {
-    class_of(b) & 1 != 0
-}
-
-pub(crate) fn is_name_start(b: u8) -> bool
-    ensures { result ≡ name_start b }
-{
-    class_of(b) & 2 != 0
-}
-
-pub(crate) fn is_name_byte(b: u8) -> bool
-    ensures { result ≡ name_byte b }
-{
-    class_of(b) & 4 != 0
+    matches!(b, b' ' | b'\t' | b'\n' | b'\r')
 }
 
 pub(crate) fn is_allowed(b: u8) -> bool
     ensures { result ≡ allowed b }
 {
-    class_of(b) & 8 != 0
+    b >= b' ' || is_white(b)
 }
 
-pub(crate) fn is_data(b: u8) -> bool
+pub(crate) fn is_name_byte(b: u8) -> bool
+    ensures { result ≡ name_byte b }
+{
+    CLASS[b as usize] & NAME != 0
+}
+
+fn is_data(b: u8) -> bool
     ensures { result ≡ data_byte b }
 {
-    class_of(b) & 16 != 0
+    CLASS[b as usize] & DATA != 0
 }
 
 // Whether the byte stands for itself in text (`stop` is then `<`) or in a value (`stop` is its quote).

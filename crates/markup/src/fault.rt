@@ -1,6 +1,9 @@
 // Why a text is refused, and where.
-ghost use Rattle.markup.specs.Faults.{fault_number, fault_place};
-ghost use Rattle.std.specs.Prelude.{◌≡◌};
+ghost use Rattle.markup.specs.Faults.{fault_number, fault_place, fault_text};
+ghost use Rattle.std.specs.Prelude.{◌≡◌, Some};
+
+use std::error::Error;
+use std::fmt;
 
 #[derive(Clone, Copy, Debug, PartialEq, Eq)]
 pub enum ReaderFault {
@@ -17,6 +20,7 @@ pub enum ReaderFault {
 }
 
 impl ReaderFault {
+    // The number that is printed and that C programs get. The numbers stand here, since a variant with a field has none that `as` could read.
     pub fn number(self) -> u32
         ensures { result ≡ fault_number self }
     {
@@ -35,10 +39,22 @@ impl ReaderFault {
     {
         match self {
             ReaderFault::CutOff { length } => length,
-            ReaderFault::Byte { at } => at,
-            ReaderFault::OtherForm { at } => at,
-            ReaderFault::LongName { at } => at,
-            ReaderFault::Reference { at } => at,
+            ReaderFault::Byte { at }
+            | ReaderFault::OtherForm { at }
+            | ReaderFault::LongName { at }
+            | ReaderFault::Reference { at } => at,
         }
     }
 }
+
+impl fmt::Display for ReaderFault {
+    ghost output = { λ fault. Some (fault_text fault) };
+
+    fn fmt<W: fmt::Write>(&self, f: &mut fmt::Formatter<W>) -> fmt::Result {
+        let number = self.number();
+        let place = self.place();
+        write!(f, "refused {number} at {place}")
+    }
+}
+
+impl Error for ReaderFault {}

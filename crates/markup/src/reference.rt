@@ -1,61 +1,58 @@
 // The five references: `&amp;` `&lt;` `&gt;` `&quot;` `&apos;`. `at` is the place of the `&`.
-ghost use Rattle.std.specs.Prelude.{◌≤◌, length};
-ghost use Rattle.markup.specs.Parts.{Awaited, Referred};
-ghost use Rattle.markup.specs.Reading.{ampersand, ampersand_a};
-
+use crate::cursor::Cursor;
 use crate::fault::ReaderFault;
-use crate::words::peek;
 
-// Past the bytes that the reference has yet to have.
-fn reference_rest(text: &[u8], from: usize, at: usize, rest: &[u8]) -> Result<usize, ReaderFault>
-    requires { from ≤ length text.now }
-    ensures { Awaited text.now from at rest.now result }
-{
-    let mut i = from;
-    for want in rest {
-        if i >= text.len() {
-            return Err(ReaderFault::CutOff { length: i });
+impl<'a> Cursor<'a> {
+    ghost use Rattle.markup.specs.Parts.{Awaited, Referred};
+    ghost use Rattle.markup.specs.Reading.{ampersand, ampersand_a};
+
+    // Behind `&`: past the reference.
+    pub(crate) fn reference(&mut self, at: usize) -> Result<(), ReaderFault>
+        ensures { Referred self.old at (ampersand at) result self.new }
+    {
+        let b = self.peek()?;
+        match b {
+            b'a' => {
+                self.place += 1;
+                self.reference_a(at)
+            }
+            b'l' | b'g' => {
+                self.place += 1;
+                self.reference_rest(at, b"t;")
+            }
+            b'q' => {
+                self.place += 1;
+                self.reference_rest(at, b"uot;")
+            }
+            _ => Err(ReaderFault::Reference { at }),
         }
-        if text[i] != *want {
-            return Err(ReaderFault::Reference { at });
+    }
+
+    // Behind `&a`.
+    fn reference_a(&mut self, at: usize) -> Result<(), ReaderFault>
+        ensures { Referred self.old at (ampersand_a at) result self.new }
+    {
+        let b = self.peek()?;
+        match b {
+            b'm' => {
+                self.place += 1;
+                self.reference_rest(at, b"p;")
+            }
+            b'p' => {
+                self.place += 1;
+                self.reference_rest(at, b"os;")
+            }
+            _ => Err(ReaderFault::Reference { at }),
         }
-        i += 1;
     }
-    Ok(i)
-}
 
-// Behind `&a`.
-fn after_ampersand_a(text: &[u8], from: usize, at: usize) -> Result<usize, ReaderFault>
-    requires { from ≤ length text.now }
-    ensures { Referred text.now from at (ampersand_a at) result }
-{
-    let b = peek(text, from)?;
-    if b == b'm' {
-        return reference_rest(text, from + 1, at, b"p;");
+    // Past the bytes that the reference has yet to have.
+    fn reference_rest(&mut self, at: usize, rest: &[u8]) -> Result<(), ReaderFault>
+        ensures { Awaited self.old at rest.now result self.new }
+    {
+        for want in rest {
+            self.take_or(|b| b == *want, ReaderFault::Reference { at })?;
+        }
+        Ok(())
     }
-    if b == b'p' {
-        return reference_rest(text, from + 1, at, b"os;");
-    }
-    Err(ReaderFault::Reference { at })
-}
-
-// Behind `&`: past the reference.
-pub(crate) fn after_ampersand(text: &[u8], from: usize, at: usize) -> Result<usize, ReaderFault>
-    requires { from ≤ length text.now }
-    ensures { Referred text.now from at (ampersand at) result }
-{
-    let b = peek(text, from)?;
-    if b == b'a' {
-        return after_ampersand_a(text, from + 1, at);
-    }
-    if b == b'l' {
-        return reference_rest(text, from + 1, at, b"t;");
-    }
-    if b == b'g' {
-        return reference_rest(text, from + 1, at, b"t;");
-    }
-    if b == b'q' {
-        return reference_rest(text, from + 1, at, b"uot;");
-    }
-    Err(ReaderFault::Reference { at })
 }

@@ -1,92 +1,115 @@
-// Start, end and empty tags. `at` is the place of the tag's `<`.
-ghost use Rattle.std.specs.Prelude.{◌≡◌, ◌+◌, ◌<◌, ◌≤◌, true, length, ◌==◌, slice_index};
-ghost use Rattle.markup.specs.Parts.{EndEnds, Finds, StartEnds};
-ghost use Rattle.markup.specs.Reading.{angle, slash};
-ghost use Rattle.name_bytes.specs.Names.{name_start};
-
-use crate::attribute::attributes_end;
-use crate::class::is_name_start;
+// Tags.
+use crate::class::{is_name_start, is_white};
+use crate::cursor::Cursor;
 use crate::fault::ReaderFault;
-use crate::piece::Found;
-use crate::words::{name_end, peek, skip_white};
 
-// Where a start tag ends, and whether it is empty.
 #[derive(Clone, Copy)]
-pub(crate) struct TagEnd {
-    pub next: usize,
-    pub empty: bool,
+pub(crate) enum TagKind {
+    Start,
+    Empty,
+    End,
 }
 
-fn ends_tag(b: u8) -> bool
-    ensures { result ≡ (b == 62) }
-{
-    b == b'>'
+// Where a tag's `<` stands, and the place behind its name.
+#[derive(Clone, Copy)]
+pub(crate) struct TagPlaces {
+    pub at: usize,
+    pub end: usize,
+    pub kind: TagKind,
 }
 
-// Behind a start tag's name: past its `>`.
-fn start_tag_end(text: &[u8], from: usize) -> Result<TagEnd, ReaderFault>
-    requires { from ≤ length text.now }
-    ensures { StartEnds text.now from result }
-{
-    let q = attributes_end(text, from)?;
-    let b = text[q];
-    if ends_tag(b) {
-        return Ok(TagEnd {
-            next: q + 1,
-            empty: false,
-        });
-    }
-    if b != b'/' {
-        return Err(ReaderFault::Byte { at: q });
-    }
-    let c = peek(text, q + 1)?;
-    if !ends_tag(c) {
-        return Err(ReaderFault::Byte { at: q + 1 });
-    }
-    Ok(TagEnd {
-        next: q + 1 + 1,
-        empty: true,
-    })
-}
+impl<'a> Cursor<'a> {
+    ghost use Rattle.markup.specs.Parts.{Closed, Finds, Opened, Tagged};
+    ghost use Rattle.markup.specs.Reading.{angle};
+    ghost use Rattle.std.specs.Prelude.{◌≡◌, ◌+◌};
 
-// Behind an end tag's name: past its `>`.
-fn end_tag_end(text: &[u8], from: usize) -> Result<usize, ReaderFault>
-    requires { from ≤ length text.now }
-    ensures { EndEnds text.now from result }
-{
-    let i = skip_white(text, from);
-    let b = peek(text, i)?;
-    if !ends_tag(b) {
-        return Err(ReaderFault::Byte { at: i });
+    // The next tag, or none where the text ends.
+    pub(crate) fn next_tag(&mut self) -> Result<Option<TagPlaces>, ReaderFault>
+        ensures { Tagged self.old result self.new }
+    {
+        'pieces: loop {
+            self.content(b'<')?;
+            let at = self.place;
+            if at == self.text.len() {
+                return Ok(None);
+            }
+            self.take(|b| b == b'<')?;
+            let tag = self.piece(at)?;
+            if tag.is_some() {
+                return Ok(tag);
+            }
+        }
     }
-    Ok(i + 1)
-}
 
-// A start or empty tag, at the first byte of its name.
-pub(crate) fn start_tag(text: &[u8], first: usize, at: usize) -> Result<Found, ReaderFault>
-    requires { (first ≡ at + 1) × (first < length text.now) × (name_start (slice_index text.now first) ≡ true) }
-    ensures { Finds text.now first (angle at) result }
-{
-    let end = name_end(text, first + 1)?;
-    let close = start_tag_end(text, end)?;
-    Ok(Found::Start {
-        at,
-        end,
-        next: close.next,
-        empty: close.empty,
-    })
-}
-
-// An end tag, behind `</`.
-pub(crate) fn end_tag(text: &[u8], first: usize, at: usize) -> Result<Found, ReaderFault>
-    requires { (first ≡ at + 2) × (first ≤ length text.now) }
-    ensures { Finds text.now first (slash at) result }
-{
-    let b = peek(text, first)?;
-    if !is_name_start(b) {
-        return Err(ReaderFault::Byte { at: first });
+    // Behind `<`: past the piece. Its tag, which a comment has none of.
+    fn piece(&mut self, at: usize) -> Result<Option<TagPlaces>, ReaderFault>
+        requires { self.old.place ≡ at + 1 }
+        ensures { Finds self.old (angle at) result self.new }
+    {
+        let b = self.peek()?;
+        if is_name_start(b) {
+            self.place += 1;
+            let tag = self.start_tag(at)?;
+            return Ok(Some(tag));
+        }
+        match b {
+            b'/' => {
+                self.place += 1;
+                let tag = self.end_tag(at)?;
+                Ok(Some(tag))
+            }
+            b'!' => {
+                self.place += 1;
+                self.after_bang(at)?;
+                Ok(None)
+            }
+            b'?' => Err(ReaderFault::OtherForm { at }),
+            _ => Err(ReaderFault::Byte { at: self.place }),
+        }
     }
-    let end = name_end(text, first + 1)?;
-    let next = end_tag_end(text, end)?;
-    Ok(Found::End { at, end, next })
+
+    // A start or empty tag, behind the first byte of its name.
+    fn start_tag(&mut self, at: usize) -> Result<TagPlaces, ReaderFault>
+        ensures { Opened self.old at result self.new }
+    {
+        self.name_rest()?;
+        let end = self.place;
+        let b = self.attributes()?;
+        match b {
+            b'>' => {
+                self.place += 1;
+                Ok(TagPlaces {
+                    at,
+                    end,
+                    kind: TagKind::Start,
+                })
+            }
+            b'/' => {
+                self.place += 1;
+                self.take(|b| b == b'>')?;
+                Ok(TagPlaces {
+                    at,
+                    end,
+                    kind: TagKind::Empty,
+                })
+            }
+            _ => Err(ReaderFault::Byte { at: self.place }),
+        }
+    }
+
+    // An end tag, behind `</`.
+    fn end_tag(&mut self, at: usize) -> Result<TagPlaces, ReaderFault>
+        ensures { Closed self.old at result self.new }
+    {
+        self.take(is_name_start)?;
+        self.name_rest()?;
+        let end = self.place;
+        self.skip(is_white);
+        self.take(|c| c == b'>')?;
+        Ok(TagPlaces {
+            at,
+            end,
+            kind: TagKind::End,
+        })
+    }
 }

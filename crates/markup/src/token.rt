@@ -6,6 +6,6 @@
 pub enum Token<'a> {
     Open { name: &'a [u8], at: usize },
     Close { name: &'a [u8], at: usize },
-    // the text is right, and has no more tags
+    // the text is right, and has no more tags; it is given again at each later call, so it is no end of an iteration
     Finish,
 }

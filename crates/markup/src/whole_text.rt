@@ -1,6 +1,6 @@
 // A whole text read at once.
-ghost use Rattle.markup.specs.Whole.{Whole, finishes};
-ghost use Rattle.std.specs.Prelude.{◌≡◌, IfOk};
+ghost use Rattle.markup.specs.Whole.{Whole};
+ghost use Rattle.std.specs.Prelude.{IfOk};
 
 use crate::fault::ReaderFault;
 use crate::reader::Reader;
@@ -18,36 +18,20 @@ pub struct WholeText<'a> {
 pub fn read_all<'a>(heap: Global, text: &'a [u8]) -> Result<WholeText<'a>, AllocError>
     ensures { IfOk result (λ w. Whole text.now w) }
 {
-    collect_tags(heap, text)
-}
-
-fn collect_tags<'a>(heap: Global, text: &'a [u8]) -> Result<WholeText<'a>, AllocError>
-    ensures { IfOk result (λ w. Whole text.now w) }
-{
     let mut reader = Reader::new(text);
     let mut tags = Vec::new(heap);
     'tags: loop {
         match reader.next() {
-            Err(fault) => return Ok(WholeText {
-                tags,
-                fault: Some(fault),
-            }),
             Ok(token) => {
-                if is_finish(token) {
+                if matches!(token, Token::Finish) {
                     return Ok(WholeText { tags, fault: None });
                 }
                 tags.push(token)?;
             }
+            Err(fault) => return Ok(WholeText {
+                tags,
+                fault: Some(fault),
+            }),
         }
-    }
-}
-
-fn is_finish(token: Token<'_>) -> bool
-    ensures { result ≡ finishes token.entry }
-{
-    match token {
-        Token::Open { .. } => false,
-        Token::Close { .. } => false,
-        Token::Finish => true,
     }
 }

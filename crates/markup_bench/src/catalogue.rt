@@ -6,7 +6,7 @@ use std::fmt::Write;
 // Each folder has about 205 bytes.
 pub(crate) fn catalogue(heap: Global, mib: u16) -> Result<String, fmt::Error> {
     let mut text = String::new(heap);
-    for folder in 0..mib as u32 * 5120 {
+    for folder in 0..u32::from(mib) * 5120 {
         add_folder(&mut text, folder)?;
     }
     Ok(text)

@@ -12,12 +12,8 @@ mod catalogue;
 fn main(rt: HostRuntime) -> anyhow::Result<()> {
     let mut args = env::args(&rt)?;
     let _program = args.next();
-    let size = args.next();
-    let mib = match &size {
-        Some(word) => word.parse::<u16>()?,
-        None => 1,
-    };
-    let text = catalogue(rt.alloc(), mib)?;
+    let size = args.next().map(|word| word.parse::<u16>()).transpose()?;
+    let text = catalogue(rt.alloc(), size.unwrap_or(1))?;
     let start = Instant::now(&rt)?;
     let tags = markup_tags(text.as_bytes());
     let taken = start.elapsed(&rt)?;

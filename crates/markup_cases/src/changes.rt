@@ -1,6 +1,6 @@
 // A long right text, its prefixes, and its changes of one byte.
 use crate::counts::Counts;
-use markup_host::markup_number;
+use markup_host::summarize;
 
 // Every form that is right stands in it.
 pub(crate) fn long_text() -> &'static [u8] {
@@ -9,23 +9,23 @@ pub(crate) fn long_text() -> &'static [u8] {
 
 // How the text ends that has the first bytes of the text, for each number of them.
 pub(crate) fn note_prefixes(text: &[u8]) -> Counts {
-    let mut counts = Counts::none();
-    for n in 0..text.len() {
-        counts.note(markup_number(&text[..n]));
+    let mut counts = Counts::default();
+    for n in 0..=text.len() {
+        counts.note(summarize(&text[..n]).fault);
     }
-    counts.note(markup_number(text));
     counts
 }
 
 // How each text ends that differs from the text in one byte; the text is as before at the end.
 pub(crate) fn note_changes(text: &mut [u8]) -> Counts {
-    let mut counts = Counts::none();
+    let mut counts = Counts::default();
+    // by index, since the whole text is read between two writes of a byte
     for i in 0..text.len() {
         let was = text[i];
         for b in 0..=255u8 {
             if b != was {
                 text[i] = b;
-                counts.note(markup_number(text));
+                counts.note(summarize(text).fault);
             }
         }
         text[i] = was;

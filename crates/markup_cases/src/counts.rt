@@ -1,5 +1,8 @@
 // How many texts ended in each way.
-#[derive(Clone, Copy)]
+use markup::ReaderFault;
+use std::fmt;
+
+#[derive(Clone, Copy, Default)]
 pub(crate) struct Counts {
     pub right: u32,
     pub cut_off: u32,
@@ -10,27 +13,33 @@ pub(crate) struct Counts {
 }
 
 impl Counts {
-    pub(crate) fn none() -> Counts {
-        Counts {
-            right: 0,
-            cut_off: 0,
-            byte: 0,
-            other_form: 0,
-            long_name: 0,
-            reference: 0,
-        }
+    // One more text, by its fault if it has one.
+    pub(crate) fn note(&mut self, fault: Option<ReaderFault>) {
+        let count = match fault {
+            None => &mut self.right,
+            Some(ReaderFault::CutOff { .. }) => &mut self.cut_off,
+            Some(ReaderFault::Byte { .. }) => &mut self.byte,
+            Some(ReaderFault::OtherForm { .. }) => &mut self.other_form,
+            Some(ReaderFault::LongName { .. }) => &mut self.long_name,
+            Some(ReaderFault::Reference { .. }) => &mut self.reference,
+        };
+        *count = count.saturating_add(1);
     }
+}
 
-    // One more text, by the number of its fault or 0.
-    pub(crate) fn note(&mut self, number: u32) {
-        match number {
-            0 => self.right = self.right.saturating_add(1),
-            21 => self.cut_off = self.cut_off.saturating_add(1),
-            22 => self.byte = self.byte.saturating_add(1),
-            23 => self.other_form = self.other_form.saturating_add(1),
-            24 => self.long_name = self.long_name.saturating_add(1),
-            25 => self.reference = self.reference.saturating_add(1),
-            _ => {}
-        }
+impl fmt::Display for Counts {
+    fn fmt<W: fmt::Write>(&self, f: &mut fmt::Formatter<W>) -> fmt::Result {
+        let Counts {
+            right,
+            cut_off,
+            byte,
+            other_form,
+            long_name,
+            reference,
+        } = *self;
+        write!(
+            f,
+            "{right} right, 21: {cut_off}, 22: {byte}, 23: {other_form}, 24: {long_name}, 25: {reference}"
+        )
     }
 }

@@ -1,46 +1,32 @@
 // Lines that stand for bytes: `\n`, `\r`, `\t`, `\\`, and `\xHH` for a byte by two lower hexadecimal digits.
-ghost use Rattle.std.specs.Prelude.{◌<◌, length};
+ghost use Rattle.std.specs.Prelude.{◌<◌, length, IfSome};
 
 use std::alloc::{AllocError, Global};
 
-// The bytes that a line stands for; a backslash before anything else stands for itself.
+// The bytes that a line stands for.
 pub(crate) fn unescaped(heap: Global, line: &[u8]) -> Result<Vec<u8>, AllocError> {
     let mut bytes = Vec::new(heap);
-    let mut i = 0;
-    'line: while i < line.len() {
-        let (b, next) = escape_at(line, i);
+    let mut rest = line;
+    'line: while let Some((b, behind)) = first_byte(rest) {
         bytes.push(b)?;
-        i = next;
+        rest = behind;
     }
     Ok(bytes)
 }
 
-// The byte that stands at a place, and the place behind it.
-fn escape_at(line: &[u8], i: usize) -> (u8, usize)
-    requires { i < length line.now }
-    ensures { i < result.1 }
+// The first byte that a line stands for, and the rest of the line; a backslash before anything else stands for itself.
+fn first_byte(line: &[u8]) -> Option<(u8, &[u8])>
+    ensures { IfSome result (λ r. length r.1.now < length line.now) }
 {
-    if line[i] != b'\\' || line.len() - i < 2 {
-        return (line[i], i + 1);
+    match line {
+        [b'\\', b'n', rest @ ..] => Some((b'\n', rest)),
+        [b'\\', b'r', rest @ ..] => Some((b'\r', rest)),
+        [b'\\', b't', rest @ ..] => Some((b'\t', rest)),
+        [b'\\', b'\\', rest @ ..] => Some((b'\\', rest)),
+        [b'\\', b'x', high, low, rest @ ..] => Some((digit(*high) * 16 + digit(*low), rest)),
+        [b, rest @ ..] => Some((*b, rest)),
+        [] => None,
     }
-    match line[i + 1] {
-        b'n' => (b'\n', i + 2),
-        b'r' => (b'\r', i + 2),
-        b't' => (b'\t', i + 2),
-        b'\\' => (b'\\', i + 2),
-        b'x' => hex_at(line, i),
-        _ => (b'\\', i + 1),
-    }
-}
-
-fn hex_at(line: &[u8], i: usize) -> (u8, usize)
-    requires { i < length line.now }
-    ensures { i < result.1 }
-{
-    if line.len() - i < 4 {
-        return (b'\\', i + 1);
-    }
-    (digit(line[i + 2]) * 16 + digit(line[i + 3]), i + 4)
 }
 
 // The value of a hexadecimal digit, 0 for any other byte.

@@ -4,7 +4,6 @@
 #![tactic(auto)]
 
 use changes::{long_text, note_changes, note_prefixes};
-use counts::Counts;
 use escapes::unescaped;
 use markup_host::{markup_number, markup_place, markup_tags};
 
@@ -21,28 +20,10 @@ fn main(rt: HostRuntime) -> anyhow::Result<()> {
         let tags = markup_tags(text.as_slice());
         println!(rt; "{number} {place} {tags} {line}")?;
     }
-    let Counts {
-        right,
-        cut_off,
-        byte,
-        other_form,
-        long_name,
-        reference,
-    } = note_prefixes(long_text());
-    println!(rt;
-        "prefixes: {right} right, 21: {cut_off}, 22: {byte}, 23: {other_form}, 24: {long_name}, 25: {reference}"
-    )?;
+    let counts = note_prefixes(long_text());
+    println!(rt; "prefixes: {counts}")?;
     let mut text = long_text().to_vec(rt.alloc())?;
-    let Counts {
-        right,
-        cut_off,
-        byte,
-        other_form,
-        long_name,
-        reference,
-    } = note_changes(text.as_mut_slice());
-    println!(rt;
-        "changes: {right} right, 21: {cut_off}, 22: {byte}, 23: {other_form}, 24: {long_name}, 25: {reference}"
-    )?;
+    let counts = note_changes(text.as_mut_slice());
+    println!(rt; "changes: {counts}")?;
     Ok(())
 }

@@ -1,0 +1,11 @@
+-- The loop of `comment` in src/comment.rt: what it keeps, and what falls with each turn.
+use Rattle.std.proofs.Common.{◌-◌, length}
+use Rattle.markup.specs.Reading.{in_comment}
+use Rattle.markup.specs.Parts.{Goes}
+use Rattle.markup.proofs.cursor.Cursor.comment.Given as goal
+
+abbrev pub invariant-bytes : goal.invariant-bytes
+invariant-bytes l = Goes l.initial.self in_comment l.self in_comment
+
+abbrev pub decreases-bytes : goal.decreases-bytes
+decreases-bytes l = length l.self.text.now - l.self.place
