@@ -85,10 +85,5 @@ impl<B: ShapeBook> Ready<B> {
 fn may_accept<B: ShapeBook>(book: &B, states: &StateSet) -> bool
     ensures { (result ≡ true) ↔ ((p : ℕ) × (has states.now.words p ≡ true) × ((B.ShapeBook.machine book.now).accepts p ≡ true)) }
 {
-    for state in 0..book.width() {
-        if states.contains(state) && book.accepts(state) {
-            return true;
-        }
-    }
-    false
+    (0..book.width()).any(|state| states.contains(state) && book.accepts(state))
 }

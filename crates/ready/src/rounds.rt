@@ -1,17 +1,18 @@
 // The rounds in which the pairs of states are found: each asks the questions that the pairs found before it raise
 // and that no earlier round asked, until a round finds nothing new. So each `back` is asked at most once.
-ghost use Rattle.std.specs.Prelude.{◌≡◌, ℕ, ◌<◌, true, false, if◌then◌else◌, MatchBool};
+ghost use Rattle.std.specs.Prelude.{◌≡◌, ℕ, ◌<◌, true, false, if◌then◌else◌, ◌↔◌};
 ghost use Rattle.book.specs.Limits.{tags};
 ghost use Rattle.book.specs.Rows.{Reach};
 ghost use Rattle.book.specs.Tables.{Fits};
 ghost use Rattle.ready.specs.Laws.{AlwaysAnswerable, DecidesAcceptance, DecidesItems, Watchable};
 ghost use Rattle.ready.specs.Sets.{has};
-ghost use Rattle.ready.specs.Pairs.{lies, joined, Covering, Uncovered};
+ghost use Rattle.ready.specs.Pairs.{lies, joined, Covering};
 ghost use Rattle.ready.specs.Rounds.{RowsLead, Entries, Grown, Found, Answers, FreshAnswers, Round};
 
-use crate::entered::{Entered, TAGS};
+use crate::entered::Entered;
 use crate::state_set::StateSet;
 use crate::table::Table;
+use book::limits::TAGS;
 use book::shape_book::ShapeBook;
 
 // One question: an item from `outer` whose inner row ends in `inner`. The table is closed at once, so that it stays
@@ -105,7 +106,7 @@ fn round<B: ShapeBook>(book: &B, entered: &Entered, table: &mut Table, asked: &m
     requires found { Found (B.ShapeBook.machine book.now) (lies table.old.rows) }
     ensures asked { asked.new ≡ table.old }
     ensures found { Round (B.ShapeBook.machine book.now) (lies asked.old.rows) (lies table.old.rows) (lies table.new.rows) }
-    ensures last { MatchBool result (Covering (B.ShapeBook.machine book.now).width (lies table.old.rows) (lies table.new.rows)) (Uncovered (B.ShapeBook.machine book.now).width (lies table.old.rows) (lies table.new.rows)) }
+    ensures last { (result ≡ true) ↔ Covering (B.ShapeBook.machine book.now).width (lies table.old.rows) (lies table.new.rows) }
 {
     let fresh = *table;
     ask_all(book, entered, table, &fresh, asked);

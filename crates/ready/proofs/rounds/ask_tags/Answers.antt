@@ -1,4 +1,4 @@
-use Rattle.std.proofs.Common.{ℕ, ◌+◌, ◌<◌, sym, ap, ◌∙◌, subst, below_more}
+use Rattle.std.proofs.Common.{ℕ, ◌+◌, ◌<◌, refl, sym, ap, ◌∙◌, subst, below_more}
 use Rattle.std.proofs.lemmas.Bool.{both_ways}
 use Rattle.ready.specs.declared.table.Table.{Table}
 use Rattle.ready.specs.Pairs.{lies}
@@ -35,7 +35,7 @@ loop-tag-preserved g c =
           subst Next (sym w.table-is) (
             inv.0,
             inv.1,
-            below_more _ _ inv.2 (λ p b h. absurd (both_ways _ (in-old p ∙ h.1) (w.if-not-is_subset.ensures p (in-new p ∙ h.0)))),
+            below_more _ _ inv.2 (λ p b h. absurd (both_ways _ (in-old p ∙ h.1) (w.if-not-is_subset.ensures.0 refl p (in-new p ∙ h.0)))),
           )
     ]
   where

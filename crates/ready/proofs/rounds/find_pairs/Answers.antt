@@ -1,11 +1,10 @@
-use Rattle.std.proofs.Common.{ℕ, ◌&&◌, eqb, ltb, sym, ap, ◌∙◌, subst}
-use Rattle.std.proofs.lemmas.Bool.{both_ways}
+use Rattle.std.proofs.Common.{ℕ, ◌&&◌, eqb, ltb, refl, sym, ap, ◌∙◌, subst}
+use Rattle.std.proofs.lemmas.Bool.{both_ways, false≢true}
 use Rattle.ready.specs.declared.table.Table.{Table}
 use Rattle.ready.specs.Pairs.{lies}
 use Rattle.ready.specs.Rounds.{Answered}
 use Rattle.ready.proofs.Counts.{lacks_lt}
-use Rattle.book.proofs.Ranges.{reach_below}
-use Rattle.ready.proofs.Relations.{positive, found_first, answered_more, answered_all, rows_lead}
+use Rattle.ready.proofs.Relations.{found_first, answered_more, answered_all, uncovered, rows_lead}
 use Rattle.ready.proofs.rounds.find_pairs.Goals as goal
 
 pub rounds-init : goal.rounds-init
@@ -26,7 +25,7 @@ returns-then-round g c =
     let new = lies c.round.new.table.rows in
     let post = c.round.ensures.found in
     let done = answered_more m old new (lies c.rounds.asked.rows) old post.growing c.rounds.invariant.answered post.answers in
-    rows_lead m law new post.found (answered_all m law new old c.if-round.ensures.last done)
+    rows_lead m law new post.found (answered_all m law new old (c.if-round.ensures.last.0 refl) done)
 
 pub rounds-preserved : goal.rounds-preserved
 rounds-preserved g c =
@@ -46,7 +45,5 @@ rounds-smaller g c =
     let m = g.B.ShapeBook.machine c.args.book.now in
     let law = g.B.ShapeBook.lawful c.args.book.now in
     let post = c.round.ensures.found in
-    let more = c.if-round.ensures.last in
-    let reached = post.found.sound more.0 more.1 more.3 in
-    lacks_lt (lies c.rounds.table.rows) (lies c.round.new.table.rows) post.growing m.width m.width
-    more.0 more.1 more.2 (reach_below m law (positive m more.0 more.2) more.0 more.1 more.2 reached.1) more.4 more.3
+    let more = uncovered m law (lies c.rounds.table.rows) (lies c.round.new.table.rows) post.found (λ cover. false≢true (c.if-round.ensures.last.1 cover)) in
+    lacks_lt (lies c.rounds.table.rows) (lies c.round.new.table.rows) post.growing m.width m.width more.0 more.1 more.2 more.3 more.5 more.4

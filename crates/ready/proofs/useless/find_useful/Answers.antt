@@ -1,7 +1,8 @@
-use Rattle.std.proofs.Common.{sym, ◌∙◌, inl, inr}
-use Rattle.std.proofs.lemmas.Bool.{both_ways, or_cases, or_left, or_right}
+use Rattle.std.proofs.Common.{refl, sym, ◌∙◌, inl, inr}
+use Rattle.std.proofs.lemmas.Bool.{false≢true, both_ways, or_cases, or_left, or_right}
 use Rattle.ready.specs.Pairs.{lies}
 use Rattle.ready.specs.Sets.{has}
+use Rattle.ready.proofs.BitLaws.{beyond}
 use Rattle.ready.proofs.Counts.{lack_lt}
 use Rattle.ready.proofs.Usefulness.{useful_spreads, useful_found}
 use Rattle.ready.proofs.useless.find_useful.Goals as goal
@@ -16,7 +17,7 @@ returns-then-is_subset g c lead q =
     let useful = has c.growing.useful.words in (
       (λ a. let b = c.growing.invariant q a in (b.0, b.1 lead)),
       λ a. useful_found m (lies c.args.reach.now.rows) lead useful law
-          (λ x p hx b hp stop. c.if-is_subset.ensures x ((c.useful_before-before.ensures x).1 (hx, (p, b, hp, stop))))
+          (λ x p hx b hp stop. c.if-is_subset.ensures.0 refl x ((c.useful_before-before.ensures x).1 (hx, (p, b, hp, stop))))
           a.1.0 a.1.1 q a.0 a.1.2 a.1.3,
     )
 
@@ -35,6 +36,6 @@ pub growing-smaller : goal.growing-smaller
 growing-smaller g c =
     let m = g.B.ShapeBook.machine c.args.book.now in
     let useful = has c.growing.useful.words in
-    let more = c.if-is_subset.ensures in
+    let more = beyond c.useful_before-before.result.words c.growing.useful.words (λ part. false≢true (c.if-is_subset.ensures.1 part)) in
     lack_lt useful (has c.union-useful.result.words) (λ q a. c.union-useful.ensures q ∙ or_left (useful q) _ a) m.width more.0
     ((c.useful_before-before.ensures more.0).0 more.1).0 more.2 (c.union-useful.ensures more.0 ∙ or_right (useful more.0) _ more.1)
