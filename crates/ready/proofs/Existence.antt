@@ -71,3 +71,15 @@ ready_leads m law r some q p = (λ a. (known.1 q p).0 (sym (agree q p) ∙ a), �
 
 pub ready_fits : (m : Machine) → Lawful m → (r : Rel) → ∥ RowsLead m r ∥₁ → Fits m r
 ready_fits m law r some = fits m r (ready_leads m law r some)
+
+-- and the same of what a search has found
+pub search_found : (m : Machine) → Lawful m → (r : Rel) → ∥ Found m r ∥₁ → Found m r
+search_found m law r some =
+    record {
+      sound = λ q p a. (known.1 q p).0 (∥∥₁_elim some (Coded-set coded_bool (known.0 q p) true) (λ found. (known.1 q p).1 (found.sound q p a)));
+      reflexive = λ q h. ∥∥₁_elim some (Coded-set coded_bool (r q q) true) (λ found. found.reflexive q h);
+      transitive = λ q s p a b. ∥∥₁_elim some (Coded-set coded_bool (r q p) true) (λ found. found.transitive q s p a b);
+    }
+  where
+    known : (s : Rel) × RowsLead m s
+    known = pairs_exist m law

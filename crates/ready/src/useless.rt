@@ -50,7 +50,7 @@ fn find_useful<B: ShapeBook>(book: &B, reach: &Table) -> StateSet
     ensures { RowsLead (B.ShapeBook.machine book.now) (lies reach.now.rows) → (q : ℕ) → (has result.words q ≡ true) ↔ ((q < (B.ShapeBook.machine book.now).width) × Useful (B.ShapeBook.machine book.now) q) }
 {
     let mut useful = StateSet::empty();
-    'growing: loop {
+    loop {
         let before = useful_before(book, reach, &useful);
         if before.is_subset(&useful) {
             return useful;
