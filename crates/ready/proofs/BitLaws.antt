@@ -1,11 +1,12 @@
 -- The members of a set that is kept in words of 64 bits. Assumes nothing.
-use Rattle.std.proofs.Common.{◌≡◌, ℕ, zero, suc, ◌+◌, ◌*◌, ◌/◌, ◌%◌, ◌^◌, ◌<◌, ◌≤◌, min, max, Bool, true, false, ◌&&◌, ◌↔◌, ◌||◌, eqb, ◌⊎◌, ◌≢◌, List, [], ◌∷◌, length, get_or, set, MatchBool, sym, subst, refl, ap, ◌∙◌, ap₂, inl, inr, mod-lt, zero-lt-suc, arith, get_or-set_other, get_or-set_same}
+use Rattle.std.proofs.Common.{◌≡◌, ℕ, zero, suc, ◌+◌, ◌*◌, ◌/◌, ◌%◌, ◌^◌, ◌<◌, ◌≤◌, min, max, Bool, true, false, not, ◌&&◌, ◌↔◌, ◌||◌, eqb, ◌⊎◌, ◌≢◌, List, [], ◌∷◌, length, get_or, set, MatchBool, sym, subst, refl, ap, ◌∙◌, ap₂, inl, inr, mod-lt, zero-lt-suc, arith, get_or-set_other, get_or-set_same}
 use lib.Bits.{bit_and, bit_or, and_lt}
 use lib.ListN.{get_or-eq_default}
 use mir.Syntax.{w64}
 use Rattle.std.specs.Int.{bit_at, trailing_zeros}
+use Rattle.std.specs.Int.RustNames.{bit_xor}
 use Rattle.std.specs.List.{zip, AllWithin, HoldsAt}
-use Rattle.std.proofs.lemmas.Nat.Bits.{bit_at-lt, bit_at-zero, bit_at_and, bit_at_or, bit_at_set_same, bit_at_set_other, bit_at-trailing_zeros, same_from_bits_below, shr_and_one}
+use Rattle.std.proofs.lemmas.Nat.Bits.{bit_at-lt, bit_at-zero, bit_at_and, bit_at_or, bit_at_xor, bit_at_set_same, bit_at_set_other, bit_at-trailing_zeros, same_from_bits_below, shr_and_one}
 use Rattle.std.proofs.lemmas.Slice.Zip.{get_or-zip, length-zip}
 use Rattle.std.proofs.lemmas.Bool.{false≢true, and_parts, or_right, cases_lt, both_ways, eqb-true, cases_eq, cases_Bool, eq-eqb, ne_eqb}
 use Rattle.ready.specs.Sets.{has, Part, Meeting}
@@ -107,6 +108,34 @@ has_union a b c lb lc h q = elim (cases_lt (q / 64) (length a)) [ inl lt ↦ ins
     outside : length a ≤ q / 64 → has c q ≡ (has a q || has b q)
     outside le =
         has_past c q (omega arith) ∙ ap₂ (λ x y. x || y) (sym (has_past a q le)) (sym (has_past b q (omega arith)))
+
+without_test : (a b : ℕ) → a < 2 → b < 2 → eqb ((max a b + b) % 2) 1 ≡ (eqb a 1 && not (eqb b 1))
+without_test zero zero ha hb = refl
+without_test zero (suc zero) ha hb = refl
+without_test zero (suc (suc b)) ha hb = absurd (omega arith)
+without_test (suc zero) zero ha hb = refl
+without_test (suc zero) (suc zero) ha hb = refl
+without_test (suc zero) (suc (suc b)) ha hb = absurd (omega arith)
+without_test (suc (suc a)) b ha hb = absurd (omega arith)
+
+-- and so is what a union has more than one of the two
+pub has_without : (a b c : List ℕ) → length b ≡ length a → length c ≡ length a
+    → ((i : ℕ) → i < length a → word c i ≡ bit_xor (bit_or (word a i) (word b i)) (word b i))
+    → (q : ℕ) → has c q ≡ (has a q && not (has b q))
+has_without a b c lb lc h q = elim (cases_lt (q / 64) (length a)) [ inl lt ↦ inside lt | inr le ↦ outside le ]
+  where
+    inside : q / 64 < length a → has c q ≡ (has a q && not (has b q))
+    inside lt =
+        let x : ℕ = word a (q / 64) in
+        let y : ℕ = word b (q / 64) in
+        let k : ℕ = q % 64 in
+        ap (λ (z : ℕ). eqb (bit_at z k) 1) (h (q / 64) lt) ∙ ap (λ (z : ℕ). eqb z 1) (bit_at_xor (bit_or x y) y k)
+        ∙ ap (λ (z : ℕ). eqb ((z + bit_at y k) % 2) 1) (bit_at_or x y k)
+        ∙ without_test (bit_at x k) (bit_at y k) (bit_at-lt x k) (bit_at-lt y k)
+
+    outside : length a ≤ q / 64 → has c q ≡ (has a q && not (has b q))
+    outside le =
+        has_past c q (omega arith) ∙ ap₂ (λ x y. x && not y) (sym (has_past a q le)) (sym (has_past b q (omega arith)))
 
 -- the member at the bit k of the word i
 has_at : (words : List ℕ) (i k : ℕ) → k < 64 → has words (i * 64 + k) ≡ eqb (bit_at (word words i) k) 1

@@ -5,7 +5,7 @@ ghost use Rattle.book.specs.Rows.{Reach};
 ghost use Rattle.ready.specs.Sets.{has};
 ghost use Rattle.ready.specs.Pairs.{lies, Covering};
 ghost use Rattle.ready.specs.Rounds.{RowsLead, Entries, Grown, Found, Answers, FreshAnswers, Answered};
-ghost use Rattle.std.specs.Prelude.{◌≡◌, ℕ, ◌<◌, true, false, ◌↔◌};
+ghost use Rattle.std.specs.Prelude.{◌≡◌, ℕ, ◌<◌, true, ◌↔◌};
 
 use crate::entered::Entered;
 use crate::state_set::StateSet;
@@ -54,16 +54,16 @@ impl<'b, B: ShapeBook> Search<'b, B> {
         }
     }
 
-    // The questions for one state and tag: an inner state for each member of `fresh` that is not in `asked`.
-    fn ask_row(&mut self, outer: u16, tag: u8, fresh: &StateSet, asked: &StateSet)
+    // The questions for one state and tag: an inner state for each of `unasked`.
+    fn ask_row(&mut self, outer: u16, tag: u8, unasked: &StateSet)
         requires outer_in { outer < (B.ShapeBook.machine self.old.book.now).width }
         requires tag_in { tag < tags }
-        requires leads { (p : ℕ) → has fresh.now.words p ≡ true → Reach (B.ShapeBook.machine self.old.book.now) ((B.ShapeBook.machine self.old.book.now).enter outer tag) p }
+        requires leads { (p : ℕ) → has unasked.now.words p ≡ true → Reach (B.ShapeBook.machine self.old.book.now) ((B.ShapeBook.machine self.old.book.now).enter outer tag) p }
         ensures onward { Onward self.old self.new }
-        ensures answers { Answers (B.ShapeBook.machine self.old.book.now) (lies self.new.table.rows) outer tag (λ p. (has fresh.now.words p ≡ true) × (has asked.now.words p ≡ false)) }
+        ensures answers { Answers (B.ShapeBook.machine self.old.book.now) (lies self.new.table.rows) outer tag (λ p. has unasked.now.words p ≡ true) }
     {
         for inner in 0..self.book.width() {
-            if fresh.contains(inner) && !asked.contains(inner) {
+            if unasked.contains(inner) {
                 self.ask(outer, inner, tag);
             }
         }
@@ -81,7 +81,7 @@ impl<'b, B: ShapeBook> Search<'b, B> {
             let new = fresh.row(inside);
             let old = self.asked.row(inside);
             if !new.is_subset(&old) {
-                self.ask_row(outer, tag, &new, &old);
+                self.ask_row(outer, tag, &new.without(&old));
             }
         }
     }

@@ -1,5 +1,5 @@
 // A set of states, a bit for each: q is a member if bit q % 64 of word q / 64 is set.
-ghost use Rattle.std.specs.Prelude.{◌≡◌, ℕ, ◌<◌, true, false, ◌&&◌, ◌||◌, ◌==◌, ◌↔◌, length, nat_lt};
+ghost use Rattle.std.specs.Prelude.{◌≡◌, ℕ, ◌<◌, true, false, not, ◌&&◌, ◌||◌, ◌==◌, ◌↔◌, length, nat_lt};
 ghost use Rattle.book.specs.Limits.{most_states};
 ghost use Rattle.ready.specs.Sets.{has, Part, Meeting};
 ghost use Rattle.ready.specs.Pairs.{empty_set};
@@ -61,6 +61,17 @@ impl StateSet {
     {
         StateSet {
             words: array::from_fn(|place| self.words[place] | other.words[place]),
+        }
+    }
+
+    // Its states that are none of `other`: what the union has more than `other`. (`a & !b` says the same, but `!b` is known to
+    // turn the bits only of a word that fits, and no word of an array behind a reference is known to.)
+    pub(crate) fn without(&self, other: &StateSet) -> StateSet
+        ensures { (q : ℕ) → has result.words q ≡ (has self.now.words q && not (has other.now.words q)) }
+    {
+        StateSet {
+            words: array::from_fn(|place| (self.words[place] | other.words[place])
+                ^ other.words[place]),
         }
     }
 

@@ -1,4 +1,4 @@
-use Rattle.std.proofs.Common.{◌≡◌, ℕ, ◌+◌, ◌<◌, true, false, sym, ap, subst, arith, below_more}
+use Rattle.std.proofs.Common.{◌≡◌, ℕ, ◌+◌, ◌<◌, true, sym, ap, subst, arith, below_more}
 use Rattle.std.proofs.lemmas.Bool.{both_ways}
 use Rattle.book.specs.Machines.{Machine}
 use Rattle.book.specs.Rows.{Reach}
@@ -8,7 +8,7 @@ use Rattle.ready.specs.Pairs.{lies}
 use Rattle.ready.specs.Searches.{Onward}
 use Rattle.ready.proofs.Searching.{onward_here, onward_then}
 use Rattle.ready.proofs.rounds.Search.ask_row.Goals as goal
-use Rattle.ready.proofs.rounds.Search.ask_row.Goals.{then-contains+then-not-contains, else-contains, else-contains-via-then-contains+else-not-contains, else-contains-via-else-contains}
+use Rattle.ready.proofs.rounds.Search.ask_row.Goals.{then-contains, else-contains}
 
 pub loop-inner-init : goal.loop-inner-init
 loop-inner-init g c = (onward_here c.args.self.now, λ p lt. absurd (omega arith))
@@ -26,7 +26,7 @@ pub loop-inner-preserved : goal.loop-inner-preserved
 loop-inner-preserved g c =
     let inv = c.loop-inner.invariant in
     elim c.if-contains.branch [
-      | then-contains+then-not-contains w ↦
+      | then-contains w ↦
           let e = ap (λ b. g.B.ShapeBook.machine b.now) inv.0.same_book in
           let step = w.ask.ensures in
           subst Next (sym w.self-is) (
@@ -35,21 +35,13 @@ loop-inner-preserved g c =
                 (λ h. subst (λ (m : Machine). lies w.ask.new.self.table.rows c.args.outer (m.back c.args.outer c.loop-inner.inner c.args.tag) ≡ true) e step.answer),
           )
       | else-contains w ↦
-          subst Next (sym w.self-is) (
-            inv.0,
-            below_more _ _ inv.1
-                (λ h. elim w.else-contains.branch [
-                  | else-contains-via-then-contains+else-not-contains v ↦ absurd (both_ways _ h.1 (sym v.if-not-contains.ensures))
-                  | else-contains-via-else-contains v ↦ absurd (both_ways _ (sym v.if-contains.ensures) h.0)
-                ]),
-          )
+          subst Next (sym w.self-is) (inv.0, below_more _ _ inv.1 (λ h. absurd (both_ways _ (sym w.if-contains.ensures) h)))
     ]
   where
     Next : Search g.row.B.Denot g.B.ShapeBook → Type 0
     Next s =
         Onward c.args.self.now s
-        × ((p : ℕ) → p < c.loop-inner.inner + 1 → (has c.args.fresh.now.words p ≡ true) × (has c.args.asked.now.words p ≡ false)
-        → lies s.table.rows c.args.outer ((g.B.ShapeBook.machine c.args.self.now.book.now).back c.args.outer p c.args.tag) ≡ true)
+        × ((p : ℕ) → p < c.loop-inner.inner + 1 → has c.args.unasked.now.words p ≡ true → lies s.table.rows c.args.outer ((g.B.ShapeBook.machine c.args.self.now.book.now).back c.args.outer p c.args.tag) ≡ true)
 
 pub returns : goal.returns
 returns g c =

@@ -1,5 +1,5 @@
-use Rattle.std.proofs.Common.{◌≡◌, ℕ, ◌+◌, ◌<◌, true, false, refl, sym, ap, ap₂, ◌∙◌, subst, arith, below_more}
-use Rattle.std.proofs.lemmas.Bool.{both_ways}
+use Rattle.std.proofs.Common.{◌≡◌, ℕ, ◌+◌, ◌<◌, true, not, refl, sym, ap, ap₂, ◌∙◌, subst, arith, below_more}
+use Rattle.std.proofs.lemmas.Bool.{both_ways, and_parts, and_from}
 use Rattle.book.specs.Machines.{Machine}
 use Rattle.ready.specs.declared.rounds.Search.{Search}
 use Rattle.ready.specs.declared.table.Table.{Table}
@@ -26,7 +26,7 @@ ask_row-requires g c =
       outer_in = outer-in;
       tag_in = c.loop-tag-test.true;
       leads = λ p h. ((search_found m (g.B.ShapeBook.lawful now.book.now) (lies now.table.rows) now.found).sound _ p
-          (so-far.growing _ p (c.requires.known _ p (ap (λ (q : ℕ). lies c.args.fresh.now.rows q p) (sym inside) ∙ sym (c.row-new.ensures p) ∙ h)))).1;
+          (so-far.growing _ p (c.requires.known _ p (ap (λ (q : ℕ). lies c.args.fresh.now.rows q p) (sym inside) ∙ sym (c.row-new.ensures p) ∙ (and_parts (has c.row-new.result.words p) _ (sym (c.without.ensures p) ∙ h)).0)))).1;
     }
 
 pub loop-tag-preserved : goal.loop-tag-preserved
@@ -41,10 +41,10 @@ loop-tag-preserved g c =
     elim c.if-not-is_subset.branch [
       | then-not-is_subset w ↦
           let step = w.ask_row.ensures in
-          let answers = subst (λ (m : Machine). Answers m (lies w.ask_row.new.self.table.rows) c.args.outer c.loop-tag.tag (λ p. (has c.row-new.result.words p ≡ true) × (has c.row-old.result.words p ≡ false))) same step.answers in
+          let answers = subst (λ (m : Machine). Answers m (lies w.ask_row.new.self.table.rows) c.args.outer c.loop-tag.tag (λ p. has w.without.result.words p ≡ true)) same step.answers in
           subst Next (sym w.self-is) (
             onward_then c.args.self.now now w.ask_row.new.self inv.0 step.onward,
-            below_more _ _ (λ t lt p b h. step.onward.growing _ _ (inv.1 t lt p b h)) (λ p b h. answers p b (in-new p ∙ h.0, in-old p ∙ h.1)),
+            below_more _ _ (λ t lt p b h. step.onward.growing _ _ (inv.1 t lt p b h)) (λ p b h. answers p b (w.without.ensures p ∙ and_from (has c.row-new.result.words p) (not (has c.row-old.result.words p)) (in-new p ∙ h.0) (ap not (in-old p ∙ h.1)))),
           )
       | else-not-is_subset w ↦
           subst Next (sym w.self-is) (
