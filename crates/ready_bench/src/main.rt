@@ -2,6 +2,7 @@
 // times, and writes to stderr how long one time takes.
 #![tactic(auto)]
 
+use book::limits::MOST_STATES;
 use book::shape_book::ShapeBook;
 use ready::ready::{Ready, make_ready};
 use ready_samples::SampleBook;
@@ -11,20 +12,15 @@ use std::{env, io};
 
 const TIMES: u32 = 200;
 
-fn pairs<B: ShapeBook>(ready: &Ready<B>) -> u32 {
-    let mut count = 0u32;
-    for from in 0..64u16 {
-        let row = ready.row(from);
-        for to in 0..64u16 {
-            if row.contains(to) {
-                count = count.wrapping_add(1);
-            }
-        }
-    }
-    count
+fn pairs<B: ShapeBook>(ready: &Ready<B>) -> usize {
+    (0..MOST_STATES)
+        .map(|from| (0..MOST_STATES)
+            .filter(|to| ready.reaches(from, *to))
+            .count())
+        .fold(0, |all: usize, row| all.wrapping_add(row))
 }
 
-fn once(book: SampleBook) -> (SampleBook, u32) {
+fn once(book: SampleBook) -> (SampleBook, usize) {
     let ready = make_ready(book);
     let count = pairs(&ready);
     (ready.hand_back(), count)

@@ -5,27 +5,24 @@ ghost use Rattle.std.specs.Prelude.{◌≤◌};
 ghost use Rattle.book.specs.Limits.{most_states};
 ghost use Rattle.ready_samples.specs.Samples.{sample_machine, sample_lawful};
 
+use book::limits::{MOST_STATES, TAGS};
 use book::shape_book::ShapeBook;
 
 pub mod made;
 
-const STATES: usize = 64;
+const STATES: usize = MOST_STATES as usize;
 
-const TAGS: usize = 32;
-
-const BY_TAG: usize = STATES * TAGS;
-
-const BY_STATE: usize = STATES * STATES;
+const PER_STATE: usize = TAGS as usize;
 
 #[derive(Drop)]
 pub struct SampleBook {
     width: u16,
     accept: [bool; STATES],
     // by state and tag
-    enter: [u8; BY_TAG],
-    up: [u8; BY_TAG],
+    enter: [[u8; PER_STATE]; STATES],
+    up: [[u8; PER_STATE]; STATES],
     // by state and by what `up` gives
-    side: [u8; BY_STATE],
+    side: [[u8; STATES]; STATES],
     ghost narrow: { width ≤ most_states },
 }
 
@@ -43,8 +40,8 @@ impl ShapeBook for SampleBook {
     }
 
     fn enter(&self, state: u16, tag: u8) -> u16 {
-        if state < self.width && (tag as usize) < TAGS {
-            let answer = self.enter[state as usize * TAGS + tag as usize] as u16;
+        if state < self.width && tag < TAGS {
+            let answer = self.enter[state as usize][tag as usize] as u16;
             answer.min(self.width - 1)
         } else {
             0
@@ -52,9 +49,9 @@ impl ShapeBook for SampleBook {
     }
 
     fn back(&self, outer: u16, inner: u16, tag: u8) -> u16 {
-        if outer < self.width && inner < self.width && (tag as usize) < TAGS {
-            let up = self.up[inner as usize * TAGS + tag as usize] as usize;
-            let answer = self.side[outer as usize * STATES + up.min(STATES - 1)] as u16;
+        if outer < self.width && inner < self.width && tag < TAGS {
+            let up = self.up[inner as usize][tag as usize] as usize;
+            let answer = self.side[outer as usize][up.min(STATES - 1)] as u16;
             answer.min(self.width - 1)
         } else {
             0

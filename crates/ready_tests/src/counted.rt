@@ -1,11 +1,10 @@
 // A book that counts the questions it is asked. No contract can speak of what a cell holds, so the counts are only tested.
+use book::limits::TAGS;
 use book::shape_book::ShapeBook;
 use std::cell::Cell;
 
 // A book of at most this width has its questions told apart.
 const STATES: usize = 16;
-
-const PAIRS: usize = STATES * STATES;
 
 #[derive(Drop)]
 pub struct Counted<B> {
@@ -13,7 +12,7 @@ pub struct Counted<B> {
     enters: Cell<u32>,
     backs: Cell<u32>,
     // for each outer and inner state a bit for each tag that `back` was asked about
-    asked: Cell<[u32; PAIRS]>,
+    asked: Cell<[[u32; STATES]; STATES]>,
     // was a `back` asked twice?
     again: Cell<bool>,
 }
@@ -24,7 +23,7 @@ impl<B> Counted<B> {
             book,
             enters: Cell::new(0),
             backs: Cell::new(0),
-            asked: Cell::new([0; PAIRS]),
+            asked: Cell::new([[0; STATES]; STATES]),
             again: Cell::new(false),
         }
     }
@@ -43,14 +42,14 @@ impl<B> Counted<B> {
 
     fn note(&self, outer: u16, inner: u16, tag: u8) {
         self.backs.set(self.backs.get().wrapping_add(1));
-        if (outer as usize) < STATES && (inner as usize) < STATES && tag < 32 {
+        if (outer as usize) < STATES && (inner as usize) < STATES && tag < TAGS {
             let mut asked = self.asked.get();
-            let place = outer as usize * STATES + inner as usize;
+            let tags = &mut asked[outer as usize][inner as usize];
             let bit = 1u32 << tag;
-            if asked[place] & bit != 0 {
+            if *tags & bit != 0 {
                 self.again.set(true);
             }
-            asked[place] = asked[place] | bit;
+            *tags |= bit;
             self.asked.set(asked);
         }
     }

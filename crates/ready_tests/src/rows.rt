@@ -1,5 +1,6 @@
 // The rows of known books, the smallest first, and the questions that making ready asks.
 use crate::counted::Counted;
+use book::limits::MOST_STATES;
 use book::shape_book::ShapeBook;
 use kinds::both::Both;
 use kinds::level::LevelShape;
@@ -11,12 +12,7 @@ use std::test::Fail;
 
 // Does the row of `from` hold just these states?
 fn has_row<B: ShapeBook>(ready: &Ready<B>, from: u16, states: &[u16]) -> bool {
-    for to in 0..64u16 {
-        if ready.reaches(from, to) != states.contains(&to) {
-            return false;
-        }
-    }
-    true
+    (0..MOST_STATES).all(|to| ready.reaches(from, to) == states.contains(&to))
 }
 
 #[test]
@@ -28,9 +24,7 @@ fn no_states_no_rows(rt: HostRuntime) {
 
 #[test]
 fn level_shape_of_depth_three(rt: HostRuntime) -> Result<(), Fail> {
-    let Ok(level) = LevelShape::new(3) else {
-        return Err(Fail::new("depth"));
-    };
+    let level = LevelShape::new(3)?;
     let ready = make_ready(level);
     assert!(rt; has_row(&ready, 0, &[0, 4]));
     assert!(rt; has_row(&ready, 1, &[1, 4]));
@@ -52,12 +46,8 @@ fn opposite_has_the_same_rows(rt: HostRuntime) {
 // Depths 1 and 2: the state of the first, times 4, and the state of the second.
 #[test]
 fn both_goes_part_by_part(rt: HostRuntime) -> Result<(), Fail> {
-    let Ok(one) = LevelShape::new(1) else {
-        return Err(Fail::new("depth"));
-    };
-    let Ok(two) = LevelShape::new(2) else {
-        return Err(Fail::new("depth"));
-    };
+    let one = LevelShape::new(1)?;
+    let two = LevelShape::new(2)?;
     let ready = make_ready(Both::new(one, two));
     let top = has_row(&ready, 0, &[0, 8, 11]) && has_row(&ready, 2, &[2, 3, 11]);
     let below = has_row(&ready, 5, &[5, 9, 11]) && has_row(&ready, 11, &[11]);
@@ -86,9 +76,7 @@ fn dead_inside_an_item_may_not_be_useless(rt: HostRuntime) -> Result<(), Fail> {
     assert!(rt; seal.is_dead(0) && seal.is_dead(3) && seal.is_dead(4));
     let useless = seal.useless_states();
     assert!(rt; !useless.contains(0) && !useless.contains(3) && !useless.contains(4));
-    let Ok(level) = LevelShape::new(3) else {
-        return Err(Fail::new("depth"));
-    };
+    let level = LevelShape::new(3)?;
     let deep = make_ready(level);
     let useless = deep.useless_states();
     assert!(rt; useless.contains(4) && !useless.contains(3) && !useless.contains(0));
