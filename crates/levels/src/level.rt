@@ -34,14 +34,22 @@ impl Level {
     pub fn outermost<B: ShapeBook>(ready: &Ready<B>) -> Level
         ensures { level_of result ≡ (first (reach_of ready.now) (B.ShapeBook.machine ready.now.book)).top }
     {
-        first_level(ready)
+        let ending = Sets::ending(ready);
+        Level {
+            state: ready.book().start(),
+            sets: ending.widened(ready),
+        }
     }
 
     // The level inside an item of tag `tag` that opens here and is entered in the state `state`.
     pub fn inside<B: ShapeBook>(&self, ready: &Ready<B>, state: u16, tag: u8) -> Level
         ensures { level_of result ≡ level state (inside (reach_of ready.now) (B.ShapeBook.machine ready.now.book) tag (level_of self.now)) }
     {
-        inner_level(self, ready, state, tag)
+        let closing = self.sets.closing(ready, self.state, tag);
+        Level {
+            state,
+            sets: closing.widened(ready),
+        }
     }
 
     // This level again, once the item of tag `tag` has closed in whose level the run stood in the state `inner`.
@@ -55,10 +63,7 @@ impl Level {
     pub fn at(&self, state: u16) -> Level
         ensures { level_of result ≡ level state (level_of self.now).can }
     {
-        Level {
-            state,
-            sets: self.sets,
-        }
+        Level { state, ..*self }
     }
 
     pub fn state(&self) -> u16
@@ -72,29 +77,8 @@ impl Level {
         ensures { result ≡ may (B.ShapeBook.machine ready.now.book) event wanted (track (level_of self.now) []) }
     {
         match event {
-            Event::Open(_) => self.sets.contains(wanted, self.state),
-            Event::Close(_) => self.sets.contains(wanted, self.state),
+            Event::Open(_) | Event::Close(_) => self.sets.contains(wanted, self.state),
             Event::End => ready.book().accepts(self.state) == wanted,
         }
-    }
-}
-
-fn first_level<B: ShapeBook>(ready: &Ready<B>) -> Level
-    ensures { level_of result ≡ (first (reach_of ready.now) (B.ShapeBook.machine ready.now.book)).top }
-{
-    let ending = Sets::ending(ready);
-    Level {
-        state: ready.book().start(),
-        sets: ending.widened(ready),
-    }
-}
-
-fn inner_level<B: ShapeBook>(around: &Level, ready: &Ready<B>, state: u16, tag: u8) -> Level
-    ensures { level_of result ≡ level state (inside (reach_of ready.now) (B.ShapeBook.machine ready.now.book) tag (level_of around.now)) }
-{
-    let closing = around.sets.closing(ready, around.state, tag);
-    Level {
-        state,
-        sets: closing.widened(ready),
     }
 }

@@ -2,7 +2,7 @@ use Rattle.std.proofs.Common.{◌≡◌, ℕ, Bool, ◌&&◌, ltb, ap, ◌∙◌
 use Rattle.scan.specs.Tracks.{level, answers, widened}
 use Rattle.levels.specs.Sets.{reach_of, passes}
 use Rattle.levels.proofs.Filling.{some_tested}
-use Rattle.levels.proofs.level.first_level.Goals as goal
+use Rattle.levels.proofs.level.Level.outermost.Goals as goal
 
 pub returns : goal.returns
 returns g c =
