@@ -1,14 +1,18 @@
 -- Every lawful machine has the pairs that are wanted: as long as a question is open, its answer is one pair more, and
 -- there are only so many pairs. Assumes nothing.
-use Rattle.std.proofs.Common.{◌≡◌, ℕ, zero, suc, ◌<◌, ◌≤◌, true, false, ◌&&◌, eqb, ltb, ◌⊎◌, refl, subst, inl, inr, arith}
+use Rattle.std.proofs.Common.{◌≡◌, ℕ, zero, suc, ◌<◌, ◌≤◌, true, false, ◌&&◌, eqb, ltb, ◌⊎◌, refl, sym, ◌∙◌, subst, inl, inr, arith}
+use Rattle.std.proofs.Math.Logic.{∥∥₁_elim}
+use Rattle.std.specs.Cmp.{both_ways as same_test}
+use base.Stored.{Coded-set, coded_bool}
 use Rattle.std.proofs.lemmas.Bool.{cases_Bool, cases_lt, both_ways}
 use Rattle.book.specs.Limits.{tags}
 use Rattle.book.specs.Machines.{Machine, Lawful}
+use Rattle.book.specs.Tables.{Fits}
 use Rattle.book.proofs.Ranges.{back_below}
 use Rattle.ready.specs.Pairs.{Rel, joined}
 use Rattle.ready.specs.Rounds.{RowsLead, Found, Answered}
 use Rattle.ready.proofs.Counts.{lacks, lacks_lt}
-use Rattle.ready.proofs.Relations.{positive, found_first, asked_new, rows_lead}
+use Rattle.ready.proofs.Relations.{positive, found_first, asked_new, rows_lead, fits}
 
 -- each number below n is of the one kind, or some number is of the other
 each_or_one : (n : ℕ) (P Q : ℕ → Type 0) → ((k : ℕ) → P k ⊎ Q k) → ((k : ℕ) → k < n → P k) ⊎ ((k : ℕ) × (k < n) × Q k)
@@ -64,3 +68,18 @@ module _ (m : Machine) (law : Lawful m) where
       let first : Rel = λ q p. ltb q m.width && eqb p q in
       let last = all_found (lacks first m.width m.width) first (found_first m first (λ q p. refl)) (omega arith) in
       (last.0, rows_lead m law last.0 last.1 last.2)
+
+-- what a ready book's type says of its table: it says that there is a proof, and here is one
+pub ready_leads : (m : Machine) → Lawful m → (r : Rel) → ∥ RowsLead m r ∥₁ → RowsLead m r
+ready_leads m law r some q p = (λ a. (known.1 q p).0 (sym (agree q p) ∙ a), λ a. agree q p ∙ (known.1 q p).1 a)
+  where
+    known : (s : Rel) × RowsLead m s
+    known = pairs_exist m law
+
+    agree : (x y : ℕ) → r x y ≡ known.0 x y
+    agree x y =
+        ∥∥₁_elim some (Coded-set coded_bool (r x y) (known.0 x y))
+        (λ lead. same_test (r x y) (known.0 x y) (λ a. (known.1 x y).1 ((lead x y).0 a)) (λ a. (lead x y).1 ((known.1 x y).0 a)))
+
+pub ready_fits : (m : Machine) → Lawful m → (r : Rel) → ∥ RowsLead m r ∥₁ → Fits m r
+ready_fits m law r some = fits m r (ready_leads m law r some)

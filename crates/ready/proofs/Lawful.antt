@@ -1,5 +1,6 @@
 -- The laws of every lawful book, from the table that it has. Assumes nothing.
-use Rattle.std.proofs.Common.{◌≡◌, ◌<◌, Bool, true, false, sym, refl}
+use Rattle.std.proofs.Common.{◌<◌}
+use Rattle.std.specs.Cmp.{both_ways}
 use Rattle.book.specs.Machines.{Machine, Lawful, selecting}
 use Rattle.book.specs.Tables.{Fits}
 use Rattle.book.proofs.Tables.{tables_decide_item, tables_decide_acceptance}
@@ -40,17 +41,11 @@ always_answerable m law k marks = answers_exist (selecting m k) law marks
 pub verdicts_exist : VerdictsExist
 verdicts_exist m law = let a = table_exists m law in some_watch_answer m a.0 law a.1
 
--- two tests that hold of the same are the same
-same_test : (x y : Bool) → (x ≡ true → y ≡ true) → (y ≡ true → x ≡ true) → x ≡ y
-same_test true y f g = sym (f refl)
-same_test false true f g = g refl
-same_test false false f g = refl
-
 pub order_is_free : OrderIsFree
 order_is_free m law = (
   (λ first r end. lead r end),
   λ first r other s end last q p.
-      same_test (r q p) (s q p)
+      both_ways (r q p) (s q p)
       (λ a. (lead s last q p).1 ((lead r end q p).0 a))
       (λ a. (lead r end q p).1 ((lead s last q p).0 a)),
 )

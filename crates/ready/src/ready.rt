@@ -14,10 +14,11 @@ use crate::useless::find_useless;
 use book::shape_book::ShapeBook;
 
 #[derive(Drop)]
-pub struct Ready<B> {
+pub struct Ready<B: ShapeBook> {
     book: B,
     // for each state of the book, the states that some row of whole items leads to
     reach: Table,
+    ghost leads: { ∥ RowsLead (B.ShapeBook.machine book) (lies reach.rows) ∥₁ },
 }
 
 // Never refuses, and ends for every book.
@@ -34,7 +35,7 @@ pub fn make_ready<B: ShapeBook>(book: B) -> Ready<B>
     Ready { book, reach }
 }
 
-impl<B> Ready<B> {
+impl<B: ShapeBook> Ready<B> {
     // Does some row of whole items lead from the book's state `from` to `to`?
     pub fn reaches(&self, from: u16, to: u16) -> bool
         ensures { result ≡ lies self.now.reach.rows from to }
@@ -67,14 +68,14 @@ impl<B> Ready<B> {
 impl<B: ShapeBook> Ready<B> {
     // Is it a state of the book from which no row of whole items leads to an accepting state?
     pub fn is_dead(&self, state: u16) -> bool
-        ensures { RowsLead (B.ShapeBook.machine self.now.book) (lies self.now.reach.rows) → ((result ≡ true) ↔ Dead (B.ShapeBook.machine self.now.book) state) }
+        ensures { (result ≡ true) ↔ Dead (B.ShapeBook.machine self.now.book) state }
     {
         state < self.book.width() && !may_accept(self.book(), &self.row(state))
     }
 
     // The states of the book from which no way on is accepted, inside whatever items the run stands.
     pub fn useless_states(&self) -> StateSet
-        ensures { RowsLead (B.ShapeBook.machine self.now.book) (lies self.now.reach.rows) → (q : ℕ) → (has result.words q ≡ true) ↔ Useless (B.ShapeBook.machine self.now.book) q }
+        ensures { (q : ℕ) → (has result.words q ≡ true) ↔ Useless (B.ShapeBook.machine self.now.book) q }
     {
         find_useless(&self.book, &self.reach)
     }

@@ -11,7 +11,7 @@ use std::{env, io};
 
 const TIMES: u32 = 200;
 
-fn pairs<B>(ready: &Ready<B>) -> u32 {
+fn pairs<B: ShapeBook>(ready: &Ready<B>) -> u32 {
     let mut count = 0u32;
     for from in 0..64u16 {
         let row = ready.row(from);

@@ -10,7 +10,7 @@ use ready_samples::made::{chain_book, empty_book, random_book, ring_book, seal_b
 use std::test::Fail;
 
 // Does the row of `from` hold just these states?
-fn has_row<B>(ready: &Ready<B>, from: u16, states: &[u16]) -> bool {
+fn has_row<B: ShapeBook>(ready: &Ready<B>, from: u16, states: &[u16]) -> bool {
     for to in 0..64u16 {
         if ready.reaches(from, to) != states.contains(&to) {
             return false;
