@@ -7,7 +7,7 @@ use Rattle.ready.specs.Pairs.{lies, empty_set}
 use Rattle.levels.specs.declared.sets.Sets.{Sets}
 
 -- the pairs of states in a ready book's table
-abbrev pub reach_of : {B : Type 0} → Ready B → ℕ → ℕ → Bool
+abbrev pub reach_of : {B : Type 0} {book : _} → Ready B book → ℕ → ℕ → Bool
 reach_of r = lies r.reach.rows
 
 -- q is in the set for the answer b
