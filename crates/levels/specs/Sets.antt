@@ -10,6 +10,10 @@ use Rattle.levels.specs.declared.sets.Sets.{Sets}
 abbrev pub reach_of : {B : Type 0} {book : _} → Ready B book → ℕ → ℕ → Bool
 reach_of r = lies r.reach.rows
 
+-- all answers of its book
+abbrev pub machine_of : {B : Type 0} {book : _} → Ready B book → Machine
+machine_of {book = book} r = book.machine r.book
+
 -- q is in the set for the answer b
 abbrev pub passes : Sets → Bool → ℕ → Bool
 passes s b q = cond b (has s.accepted.words q) (has s.refused.words q)

@@ -1,7 +1,7 @@
 // One level of a run.
 ghost use Rattle.std.specs.Prelude.{◌≡◌, Bool, []};
 ghost use Rattle.scan.specs.Tracks.{level, track, first, inside, may};
-ghost use Rattle.levels.specs.Sets.{reach_of};
+ghost use Rattle.levels.specs.Sets.{machine_of, reach_of};
 ghost use Rattle.levels.specs.Levels.{level_of, blank};
 
 use crate::sets::Sets;
@@ -32,7 +32,7 @@ impl Level {
 
     // The level outside all items, before any event.
     pub fn outermost<B: ShapeBook>(ready: &Ready<B>) -> Level
-        ensures { level_of result ≡ (first (reach_of ready.now) (B.ShapeBook.machine ready.now.book)).top }
+        ensures { level_of result ≡ (first (reach_of ready.now) (machine_of ready.now)).top }
     {
         let ending = Sets::ending(ready);
         Level {
@@ -43,7 +43,7 @@ impl Level {
 
     // The level inside an item of tag `tag` that opens here and is entered in the state `state`.
     pub fn inside<B: ShapeBook>(&self, ready: &Ready<B>, state: u16, tag: u8) -> Level
-        ensures { level_of result ≡ level state (inside (reach_of ready.now) (B.ShapeBook.machine ready.now.book) tag (level_of self.now)) }
+        ensures { level_of result ≡ level state (inside (reach_of ready.now) (machine_of ready.now) tag (level_of self.now)) }
     {
         let closing = self.sets.closing(ready, self.state, tag);
         Level {
@@ -54,7 +54,7 @@ impl Level {
 
     // This level again, once the item of tag `tag` has closed in whose level the run stood in the state `inner`.
     pub fn behind<B: ShapeBook>(&self, ready: &Ready<B>, inner: u16, tag: u8) -> Level
-        ensures { level_of result ≡ level ((B.ShapeBook.machine ready.now.book).back self.now.state inner tag) (level_of self.now).can }
+        ensures { level_of result ≡ level ((machine_of ready.now).back self.now.state inner tag) (level_of self.now).can }
     {
         self.at(ready.book().back(self.state, inner, tag))
     }
@@ -74,7 +74,7 @@ impl Level {
 
     // Can the catalogue still get the answer `wanted`, once this event has been? After the end the state alone says.
     pub fn may_be<B: ShapeBook>(&self, ready: &Ready<B>, event: Event, wanted: bool) -> bool
-        ensures { result ≡ may (B.ShapeBook.machine ready.now.book) event wanted (track (level_of self.now) []) }
+        ensures { result ≡ may (machine_of ready.now) event wanted (track (level_of self.now) []) }
     {
         match event {
             Event::Open(_) | Event::Close(_) => self.sets.contains(wanted, self.state),

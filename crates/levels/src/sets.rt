@@ -4,7 +4,7 @@ ghost use Rattle.book.specs.Limits.{most_states};
 ghost use Rattle.book.specs.Tables.{some_below};
 ghost use Rattle.ready.specs.Sets.{has};
 ghost use Rattle.scan.specs.Tracks.{answers, widened};
-ghost use Rattle.levels.specs.Sets.{reach_of, passes, none, closing, Below, Filled};
+ghost use Rattle.levels.specs.Sets.{machine_of, reach_of, passes, none, closing, Below, Filled};
 
 use book::shape_book::ShapeBook;
 use ready::ready::Ready;
@@ -56,7 +56,7 @@ impl Sets {
 
     // The states in which a catalogue may end, by its answer.
     pub(crate) fn ending<B: ShapeBook>(ready: &Ready<B>) -> Sets
-        ensures { (b : Bool) (q : ℕ) → passes result b q ≡ (nat_lt q (B.machine ready.now.book).width && answers (B.machine ready.now.book) b q) }
+        ensures { (b : Bool) (q : ℕ) → passes result b q ≡ (nat_lt q (machine_of ready.now).width && answers (machine_of ready.now) b q) }
     {
         let book = ready.book();
         Sets::of(book.width(), |state| {
@@ -67,7 +67,7 @@ impl Sets {
 
     // The states inside an item of tag `tag`, opened in the state `outer`, from which its close leads into these sets.
     pub(crate) fn closing<B: ShapeBook>(&self, ready: &Ready<B>, outer: u16, tag: u8) -> Sets
-        ensures { (b : Bool) (q : ℕ) → passes result b q ≡ closing (B.machine ready.now.book) outer tag (passes self.now b) q }
+        ensures { (b : Bool) (q : ℕ) → passes result b q ≡ closing (machine_of ready.now) outer tag (passes self.now b) q }
     {
         let book = ready.book();
         Sets::of(book.width(), |inner| {
@@ -78,8 +78,8 @@ impl Sets {
 
     // The states from which a row of whole items leads into these sets.
     pub(crate) fn widened<B: ShapeBook>(&self, ready: &Ready<B>) -> Sets
-        requires { Below (B.machine ready.now.book).width self.now }
-        ensures { (b : Bool) (q : ℕ) → passes result b q ≡ widened (reach_of ready.now) (B.machine ready.now.book) (passes self.now b) q }
+        requires { Below (machine_of ready.now).width self.now }
+        ensures { (b : Bool) (q : ℕ) → passes result b q ≡ widened (reach_of ready.now) (machine_of ready.now) (passes self.now b) q }
     {
         Sets::of(
             ready.book().width(),
@@ -89,9 +89,9 @@ impl Sets {
 
     // Does a row of whole items lead from this state into the set for yes, and into that for no?
     fn reached_from<B: ShapeBook>(&self, ready: &Ready<B>, state: u16) -> (bool, bool)
-        requires { Below (B.machine ready.now.book).width self.now }
-        ensures yes { result.0 ≡ some_below (B.machine ready.now.book).width (λ p. reach_of ready.now state p && passes self.now true p) }
-        ensures no { result.1 ≡ some_below (B.machine ready.now.book).width (λ p. reach_of ready.now state p && passes self.now false p) }
+        requires { Below (machine_of ready.now).width self.now }
+        ensures yes { result.0 ≡ some_below (machine_of ready.now).width (λ p. reach_of ready.now state p && passes self.now true p) }
+        ensures no { result.1 ≡ some_below (machine_of ready.now).width (λ p. reach_of ready.now state p && passes self.now false p) }
     {
         let row = ready.row(state);
         (
