@@ -13,7 +13,7 @@ use ready::ready::Ready;
 
 #[derive(Clone, Copy)]
 pub struct Cell {
-    // the item whose run it is, and the event that opened it; the base run has 0 and 0
+    // the item whose run it is, and the event that opened it; the base run has 0 and 0, which nothing reads
     item: u32,
     since: u32,
     // the run's cell in the level around this one

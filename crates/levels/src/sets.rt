@@ -10,7 +10,7 @@ use book::shape_book::ShapeBook;
 use ready::ready::Ready;
 use ready::state_set::StateSet;
 
-// A set for each answer that a whole catalogue can have.
+// A set for each answer that a whole catalogue can have, each with a name, since most code asks for the one or the other.
 #[derive(Clone, Copy)]
 pub(crate) struct Sets {
     accepted: StateSet,
@@ -40,6 +40,7 @@ impl Sets {
     }
 
     // The sets of the states below `width`; `belongs` says of a state whether it is in each of them, the set for yes first.
+    // One pass fills both, so that the book is asked once about a state.
     fn of<F: Fn(u16) -> (bool, bool)>(width: u16, belongs: F) -> Sets
         requires callable { F.IsAlwaysCallable belongs }
         requires narrow { width ≤ most_states }

@@ -1,5 +1,5 @@
 -- Rows of cells that are changed cell by cell. Assumes nothing.
-use Rattle.std.proofs.Common.{◌≡◌, ℕ, suc, ◌+◌, ◌-◌, ◌<◌, ◌≤◌, ◌≢◌, ◌⊎◌, List, [], ◌∷◌, ◌++◌, length, take, drop, set, sym, refl, ap, ◌∙◌, subst, inl, inr, arith, length-append, length-take-le, get_or-set_other, get_or-set_same}
+use Rattle.std.proofs.Common.{◌≡◌, ℕ, suc, ◌+◌, ◌-◌, ◌<◌, ◌≤◌, ◌≢◌, ◌⊎◌, List, [], ◌∷◌, ◌++◌, length, take, drop, set, sym, ap, ◌∙◌, subst, inl, inr, arith, length-append, get_or-set_other, get_or-set_same}
 use lib.Seq.{take-append-le}
 use borrow.Rule.Slice.PartMut.{put_mid}
 use Rattle.std.proofs.lemmas.List.{drop-take, set_at}
@@ -40,14 +40,3 @@ mid_put n k [] ys le lt = absurd (omega arith)
 mid_put n k (x ∷ xs) ys le lt =
     let e : k + 1 ≡ suc k = omega arith in
     ap (λ (j : ℕ). drop 1 (take j (put_mid 1 n (x ∷ xs) ys))) e ∙ take-append-le k ys _ lt
-
-pub mid_first : (n : ℕ) (xs ys : List Cell) → 1 ≤ length xs → cell_at (put_mid 1 n xs ys) 0 ≡ cell_at xs 0
-mid_first n [] ys le = absurd (omega arith)
-mid_first n (x ∷ xs) ys le = refl
-
-pub rest_length : (n : ℕ) (cs : List Cell) → n ≤ length cs → length (drop 1 (take n cs)) ≡ n - 1
-rest_length n cs le = go (take n cs) (length-take-le n cs le)
-  where
-    go : (xs : List Cell) → length xs ≡ n → length (drop 1 xs) ≡ n - 1
-    go [] e = omega arith
-    go (x ∷ xs) e = omega arith

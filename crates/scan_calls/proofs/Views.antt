@@ -2,7 +2,8 @@
 use Rattle.std.proofs.Common.{◌≡◌, ℕ, zero, suc, ◌+◌, ◌-◌, ◌<◌, ◌≤◌, Bool, true, false, cond, ◌≢◌, List, [], ◌∷◌, ◌++◌, map, length, get_or, take, drop, filter, sym, refl, ap, ◌∙◌, subst, arith, length-append, length-drop, length-take}
 use lib.ListN.{length-map}
 use Rattle.std.proofs.lemmas.List.Elements.{filter-append}
-use Rattle.std.proofs.lemmas.List.{take_more, drop-map}
+use Rattle.std.proofs.lemmas.List.{take_more, drop-map, map-append}
+use Rattle.std.proofs.lemmas.Simd.{map-map}
 use Rattle.std.proofs.lemmas.List.Sums.{length-filter, count_by-le-length}
 use Rattle.book.specs.declared.event.Event.{Event}
 use Rattle.book.specs.declared.event.Event.TheVariants.{Open, Close, End}
@@ -40,14 +41,6 @@ map_like : {X Y : Type 0} (f g : X → Y) → ((x : X) → f x ≡ g x) → (xs 
 map_like f g same [] = refl
 map_like f g same (x ∷ xs) = λ i. same x i ∷ map_like f g same xs i
 
-map_map : {X Y Z : Type 0} (f : X → Y) (g : Y → Z) (xs : List X) → map (λ x. g (f x)) xs ≡ map g (map f xs)
-map_map f g [] = refl
-map_map f g (x ∷ xs) = ap (λ r. g (f x) ∷ r) (map_map f g xs)
-
-map_app : {X Y : Type 0} (f : X → Y) (xs ys : List X) → map f (xs ++ ys) ≡ map f xs ++ map f ys
-map_app f [] ys = refl
-map_app f (x ∷ xs) ys = ap (λ r. f x ∷ r) (map_app f xs ys)
-
 -- one cell more behind the first
 rest_more : {X : Type 0} (f : Cell → X) (n : ℕ) (ys : List Cell) → 1 ≤ n → n < length ys → map f (drop 1 (take (n + 1) ys)) ≡ map f (drop 1 (take n ys)) ++ (f (cell_at ys n) ∷ [])
 rest_more f n [] some lt = absurd (omega arith)
@@ -56,7 +49,7 @@ rest_more f (suc n) (y ∷ ys) some lt =
     let up : suc n + 1 ≡ suc (n + 1) = omega arith in
     ap (λ (k : ℕ). map f (drop 1 (take k (y ∷ ys)))) up
     ∙ ap (map f) (take_more ys n _ (omega arith))
-    ∙ map_app f (take n ys) (cell_at ys n ∷ [])
+    ∙ map-append f (take n ys) (cell_at ys n ∷ [])
 
 -- a filter of cells is a filter of the items that they stand for
 pub kept_map : {X : Type 0} (g : Cell → X) (p : Cell → Bool) (q : X → Bool) → ((c : Cell) → p c ≡ q (g c)) → (cs : List Cell) → map g (filter p cs) ≡ filter q (map g cs)
@@ -133,7 +126,7 @@ module _ (reach : ℕ → ℕ → Bool) (m : Machine) (t : ℕ) (rows later : Li
         ∙ (λ i. rest_like (held_in later (suc d)) (λ c. onward reach m (Open t) (held_in rows d c)) n cells (get_or later (suc d) []) long (omega arith)
         (λ k lt. child only k (seen (cell_at (get_or later (suc d) []) k)) (each k lt)) i
         ++ (fresh_child only item since q (seen (cell_at (get_or later (suc d) []) n)) new i ∷ []))
-        ∙ ap (λ (r : List Holding). r ++ (holding_new item since (entered reach m t q (base_view rows d)) ∷ [])) (map_map (held_in rows d) (onward reach m (Open t)) (drop 1 (take n cells))),
+        ∙ ap (λ (r : List Holding). r ++ (holding_new item since (entered reach m t q (base_view rows d)) ∷ [])) (sym (map-map (onward reach m (Open t)) (held_in rows d) (drop 1 (take n cells)))),
   )
 
   pub opens : (n item since q : ℕ) → 1 ≤ n → n ≤ length cells → Opens n item since q (d + 1)
@@ -151,7 +144,7 @@ held_count reach m t rows d n h =
     old : length (filter (is_held m (Open t)) (map (onward reach m (Open t)) (held_view rows d n))) ≡ length (filter (held_child reach m t) (drop 1 (take n (get_or rows d []))))
     old = let cs : List Cell = drop 1 (take n (get_or rows d [])) in
         let g : Cell → Holding = (λ c. onward reach m (Open t) (held_in rows d c)) in
-        ap (λ (hs : List Holding). length (filter (is_held m (Open t)) hs)) (sym (map_map (held_in rows d) (onward reach m (Open t)) cs))
+        ap (λ (hs : List Holding). length (filter (is_held m (Open t)) hs)) (map-map (onward reach m (Open t)) (held_in rows d) cs)
         ∙ ap length (sym (kept_map g (held_child reach m t) (is_held m (Open t)) (λ c. refl) cs))
         ∙ length-map (filter (held_child reach m t) cs) g
 
@@ -256,7 +249,7 @@ module _ (reach : ℕ → ℕ → Bool) (m : Machine) (t : ℕ) (old left judged
       ap (λ (n : ℕ). map (held_in left.cells d) (drop 1 (take n (row_of left)))) all
       ∙ rest_like (held_in left.cells d) (λ c. onward reach m (Close t) (held_in old.cells old.depth c)) old.count (row_of old) (row_of left) long wide
       (λ k lt. behind (seen (cell_at (row_of left) k)) (seen (cell_at (row_of old) k)) (left_cells k lt))
-      ∙ map_map (held_in old.cells old.depth) (onward reach m (Close t)) (item_cells old) in
+      ∙ sym (map-map (onward reach m (Close t)) (held_in old.cells old.depth) (item_cells old)) in
       let stay : map (held_in judged.cells d) (item_cells judged) ≡ held_of later =
       map_like (held_in judged.cells d) (held_in later.cells d) (λ c. sym (below (seen c))) (item_cells judged)
       ∙ ap (λ (cs : List Cell). map (held_in later.cells d) (drop 1 cs)) (sym (take_like judged.count (row_of judged) (row_of later) room here lowered))

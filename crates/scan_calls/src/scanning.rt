@@ -16,7 +16,7 @@ use ready::ready::Ready;
 // Each cell names its parent, the cell of the level around it: here each base the base, and the reel the reel.
 #[derive(Drop)]
 pub(crate) struct Rows {
-    // what lies behind the cells in use means nothing
+    // fixed arrays, since a scan takes no memory while it runs; what lies behind the cells in use means nothing
     pub(crate) cells: [[Cell; CELLS]; LEVELS],
     // the current level: as many items are open
     pub(crate) depth: usize,
@@ -31,7 +31,7 @@ pub(crate) struct Rows {
 pub struct Scan<B: SelectingBook> {
     pub(crate) ready: Ready<B>,
     pub(crate) rows: Rows,
-    // the tags of the open items, the outermost first
+    // the tags of the open items, the outermost first; as many as the rows' level, in fixed memory too
     pub(crate) tags: [u8; DEPTH],
     pub(crate) events: u32,
     pub(crate) opened: u32,

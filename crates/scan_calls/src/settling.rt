@@ -21,6 +21,7 @@ pub(crate) fn write_orders<B: ShapeBook>(
     ensures count { result ≡ length (filter (cell_due (machine_of ready.now) call) cells.now) }
     ensures filled { orders.new ≡ map (cell_note event) (filter (cell_due (machine_of ready.now) call) cells.now) ++ drop result orders.old }
 {
+    // how many orders there are is their place in the list too, and the answer
     let mut sent = 0;
     for cell in cells {
         if cell.is_due(ready, call) {
