@@ -1,31 +1,19 @@
 -- Every lawful machine has the pairs that are wanted: as long as a question is open, its answer is one pair more, and
 -- there are only so many pairs. Assumes nothing.
-use Rattle.std.proofs.Common.{◌≡◌, ℕ, zero, suc, ◌<◌, ◌≤◌, true, false, ◌&&◌, eqb, ltb, ◌⊎◌, refl, sym, ◌∙◌, subst, inl, inr, arith}
+use Rattle.std.proofs.Common.{◌≡◌, ℕ, zero, suc, ◌<◌, ◌≤◌, true, false, ◌&&◌, eqb, ltb, ◌⊎◌, refl, sym, ◌∙◌, inl, inr, arith}
 use Rattle.std.proofs.Math.Logic.{∥∥₁_elim}
 use Rattle.std.specs.Cmp.{both_ways as same_test}
 use base.Stored.{Coded-set, coded_bool}
-use Rattle.std.proofs.lemmas.Bool.{cases_Bool, cases_lt, both_ways}
+use Rattle.std.proofs.lemmas.Bool.{cases_Bool, both_ways}
 use Rattle.book.specs.Limits.{tags}
 use Rattle.book.specs.Machines.{Machine, Lawful}
 use Rattle.book.specs.Tables.{Fits}
 use Rattle.book.proofs.Ranges.{back_below}
 use Rattle.ready.specs.Pairs.{Rel, joined}
 use Rattle.ready.specs.Rounds.{RowsLead, Found, Answered}
+use Rattle.ready.proofs.Choices.{each_or_one}
 use Rattle.ready.proofs.Counts.{lacks, lacks_lt}
 use Rattle.ready.proofs.Relations.{positive, found_first, asked_new, rows_lead, fits}
-
--- each number below n is of the one kind, or some number is of the other
-each_or_one : (n : ℕ) (P Q : ℕ → Type 0) → ((k : ℕ) → P k ⊎ Q k) → ((k : ℕ) → k < n → P k) ⊎ ((k : ℕ) × (k < n) × Q k)
-each_or_one zero P Q h = inl (λ k lt. absurd (omega arith))
-each_or_one (suc n) P Q h = go (h n) (each_or_one n P Q h)
-  where
-    go : (P n ⊎ Q n) → (((k : ℕ) → k < n → P k) ⊎ ((k : ℕ) × (k < n) × Q k)) → ((k : ℕ) → k < suc n → P k) ⊎ ((k : ℕ) × (k < suc n) × Q k)
-    go (inr a) b = inr (n, omega arith, a)
-    go (inl a) (inr b) = inr (b.0, omega (arith, b.1), b.2)
-    go (inl a) (inl b) = inl (λ k lt. elim (cases_lt k n) [ inl l ↦ b k l | inr g ↦ at_n k lt g ])
-      where
-        at_n : (k : ℕ) → k < suc n → n ≤ k → P k
-        at_n k lt g = let e : n ≡ k = omega arith in subst P e a
 
 module _ (m : Machine) (law : Lawful m) where
   abbrev Asked : Rel → ℕ → ℕ → ℕ → Type 0
@@ -83,3 +71,15 @@ ready_leads m law r some q p = (λ a. (known.1 q p).0 (sym (agree q p) ∙ a), �
 
 pub ready_fits : (m : Machine) → Lawful m → (r : Rel) → ∥ RowsLead m r ∥₁ → Fits m r
 ready_fits m law r some = fits m r (ready_leads m law r some)
+
+-- and the same of what a search has found
+pub search_found : (m : Machine) → Lawful m → (r : Rel) → ∥ Found m r ∥₁ → Found m r
+search_found m law r some =
+    record {
+      sound = λ q p a. (known.1 q p).0 (∥∥₁_elim some (Coded-set coded_bool (known.0 q p) true) (λ found. (known.1 q p).1 (found.sound q p a)));
+      reflexive = λ q h. ∥∥₁_elim some (Coded-set coded_bool (r q q) true) (λ found. found.reflexive q h);
+      transitive = λ q s p a b. ∥∥₁_elim some (Coded-set coded_bool (r q p) true) (λ found. found.transitive q s p a b);
+    }
+  where
+    known : (s : Rel) × RowsLead m s
+    known = pairs_exist m law

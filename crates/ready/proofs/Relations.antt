@@ -1,7 +1,7 @@
 -- What a search for pairs has found: at first, with one pair more, and where every question has been asked.
 -- Assumes nothing.
-use Rattle.std.proofs.Common.{◌≡◌, ℕ, ◌<◌, true, cond, ◌&&◌, eqb, ltb, ◌⊎◌, sym, refl, ◌∙◌, subst, inl, inr, arith}
-use Rattle.std.proofs.lemmas.Bool.{cases_Bool, or_cases, or_left, or_right, and_parts, and_from, lt-ltb, ltb-true, eqb-true, eq-eqb, cond-true, cond-false}
+use Rattle.std.proofs.Common.{◌≡◌, ℕ, ◌<◌, true, false, cond, ◌&&◌, eqb, ltb, ◌⊎◌, sym, refl, ◌∙◌, subst, inl, inr, arith}
+use Rattle.std.proofs.lemmas.Bool.{cases_Bool, both_ways, or_cases, or_left, or_right, and_parts, and_from, lt-ltb, ltb-true, eqb-true, eq-eqb, cond-true, cond-false}
 use Rattle.book.specs.Limits.{tags}
 use Rattle.book.specs.Machines.{Machine, Lawful}
 use Rattle.book.specs.Rows.{Forest, none, item, tagged, through, Reach}
@@ -9,7 +9,8 @@ use Rattle.ready.specs.Pairs.{Rel, joined, Covering}
 use Rattle.ready.specs.Rounds.{RowsLead, Grown, Found, FreshAnswers, Answered}
 use Rattle.book.specs.Tables.{Fits}
 use Rattle.book.proofs.Rows.{reach_here, reach_then, reach_item}
-use Rattle.book.proofs.Ranges.{enter_below, back_below, through_below}
+use Rattle.book.proofs.Ranges.{enter_below, back_below, through_below, reach_below}
+use Rattle.ready.proofs.Choices.{each_or_one}
 
 -- a book that has a state has a width above 0
 pub positive : (m : Machine) (q : ℕ) → q < m.width → 0 < m.width
@@ -138,6 +139,20 @@ answered_more m r s asked fresh more old new q t hq ht p hp h =
 -- where the fresh pairs are all there are
 pub answered_all : (m : Machine) → Lawful m → (s fresh : Rel) → Covering m.width fresh s → Answered m s fresh → Answered m s s
 answered_all m law s fresh cover h q t hq ht p hp a = h q t hq ht p hp (cover (m.enter q t) p (enter_below m law (positive m q hq) q t) a)
+
+-- where some pair is new, here is one
+pub uncovered : (m : Machine) → Lawful m → (r s : Rel) → Found m s → (Covering m.width r s → ⊥)
+    → (q : ℕ) × (p : ℕ) × (q < m.width) × (p < m.width) × (s q p ≡ true) × (r q p ≡ false)
+uncovered m law r s found not = elim (each_or_one m.width _ _ (λ q. each_or_one m.width _ _ (one q))) [
+  | inl all ↦ absurd (not (λ q p lt h. all q lt p (reach_below m law (positive m q lt) q p lt (found.sound q p h).1) h))
+  | inr b ↦ (b.0, b.2.0, b.1, b.2.1, b.2.2.0, b.2.2.1)
+]
+  where
+    one : (q p : ℕ) → (s q p ≡ true → r q p ≡ true) ⊎ ((s q p ≡ true) × (r q p ≡ false))
+    one q p = elim (cases_Bool (r q p)) [
+      | inl y ↦ inl (λ _. y)
+      | inr n ↦ elim (cases_Bool (s q p)) [ inl y ↦ inr (y, n) | inr k ↦ inl (λ y. absurd (both_ways (s q p) k y)) ]
+    ]
 
 -- the pairs that are wanted fit the book
 pub fits : (m : Machine) (r : Rel) → RowsLead m r → Fits m r

@@ -1,10 +1,11 @@
 -- The pairs of a table, as its rows are written. Assumes nothing.
-use Rattle.std.proofs.Common.{◌≡◌, ℕ, ◌+◌, ◌<◌, ◌≤◌, Bool, true, false, ◌&&◌, ◌||◌, ltb, ◌≢◌, List, [], length, get_or, set, replicate, sym, refl, ap, ◌∙◌, subst, inl, inr, arith, get_or-set_other, get_or-set_same}
+use Rattle.std.proofs.Common.{◌≡◌, ℕ, ◌+◌, ◌-◌, ◌<◌, ◌≤◌, Bool, true, false, ◌&&◌, ◌||◌, ltb, ◌≢◌, List, [], ◌++◌, length, get_or, set, take, drop, replicate, sym, refl, ap, ap₂, ◌∙◌, subst, inl, inr, arith, get_or-set_other, get_or-set_same}
 use lib.ListN.{length-replicate, get_or-replicate, get_or-eq_default}
+use Rattle.std.proofs.lemmas.List.{get_or_default, get_or-take, get_or_append_left, get_or-append_right, get_or-drop}
 use Rattle.std.proofs.lemmas.Bool.{cases_eq, cases_lt, lt-ltb, le-ltb}
 use Rattle.ready.specs.declared.state_set.StateSet.{StateSet}
 use Rattle.ready.specs.Sets.{has}
-use Rattle.ready.specs.Pairs.{lies, nothing}
+use Rattle.ready.specs.Pairs.{lies, nothing, joined}
 use Rattle.ready.proofs.BitLaws.{has_zeros, or_none}
 
 pub lies_is : (rows : List StateSet) (q p : ℕ) → lies rows q p ≡ has (get_or rows q nothing).words p
@@ -22,6 +23,13 @@ lies_other rows q s k p n = ap (λ (x : StateSet). has x.words p) (get_or-set_ot
 pub lies_past : (rows : List StateSet) (q p : ℕ) → length rows ≤ q → lies rows q p ≡ false
 unfolding lies
 lies_past rows q p h = ap (λ (x : StateSet). has x.words p) (get_or-eq_default rows nothing h) ∙ has_zeros [] refl p
+
+-- whatever else a row past the last is read as, if it has no member
+pub lies_or : (rows : List StateSet) (d : StateSet) → ((p : ℕ) → has d.words p ≡ false) → (q p : ℕ) → has (get_or rows q d).words p ≡ lies rows q p
+lies_or rows d none q p = elim (cases_lt q (length rows)) [
+  | inl lt ↦ ap (λ (x : StateSet). has x.words p) (get_or_default rows q d nothing lt) ∙ sym (lies_is rows q p)
+  | inr le ↦ ap (λ (x : StateSet). has x.words p) (get_or-eq_default rows d le) ∙ none p ∙ sym (lies_past rows q p le)
+]
 
 pub lies_none : (n : ℕ) (s : StateSet) → ((p : ℕ) → has s.words p ≡ false) → (q p : ℕ) → lies (replicate n s) q p ≡ false
 unfolding lies
@@ -85,3 +93,35 @@ pub untouched : (rows : List StateSet) (i : ℕ)
     → (p : ℕ) → lies rows i p ≡ old i p
 untouched rows i old extra h p =
     h i p ∙ ap (λ (b : Bool). old i p || (b && extra i p)) (le-ltb i i (omega arith)) ∙ or_none (old i p)
+
+-- the first rows
+lies_take : (rows : List StateSet) (w q p : ℕ) → q < w → lies (take w rows) q p ≡ lies rows q p
+unfolding lies
+lies_take rows w q p h = ap (λ (x : StateSet). has x.words p) (get_or-take w rows q nothing h)
+
+lies_before : (rows more : List StateSet) (q p : ℕ) → q < length rows → lies (rows ++ more) q p ≡ lies rows q p
+unfolding lies
+lies_before rows more q p h = ap (λ (x : StateSet). has x.words p) (get_or_append_left rows more nothing q h)
+
+lies_behind : (rows all : List StateSet) (q p : ℕ) → length rows ≤ q → lies (rows ++ drop (length rows) all) q p ≡ lies all q p
+unfolding lies
+lies_behind rows all q p h =
+    let e : length rows + (q - length rows) ≡ q = omega arith in
+    ap (λ (x : StateSet). has x.words p)
+    (get_or-append_right rows (drop (length rows) all) (length rows) q nothing refl h ∙ get_or-drop (length rows) all (q - length rows) nothing ∙ ap (λ (k : ℕ). get_or all k nothing) e)
+
+-- the first w rows, those of `done`, have been written, each with its pair more
+pub joined_rows : (rows done : List StateSet) (w from to : ℕ) → length done ≡ w
+    → ((q p : ℕ) → lies done q p ≡ (lies (take w rows) q p || (ltb q w && (lies (take w rows) q from && lies rows to p))))
+    → (q p : ℕ) → lies (done ++ drop w rows) q p ≡ joined (lies rows) w from to q p
+joined_rows rows done w from to long h q p = elim (cases_lt q w) [ inl lt ↦ inside lt | inr le ↦ outside le ]
+  where
+    inside : q < w → lies (done ++ drop w rows) q p ≡ joined (lies rows) w from to q p
+    inside lt =
+        lies_before done (drop w rows) q p (omega arith) ∙ h q p
+        ∙ ap₂ (λ (x y : Bool). x || (ltb q w && (y && lies rows to p))) (lies_take rows w q p lt) (lies_take rows w q from lt)
+
+    outside : w ≤ q → lies (done ++ drop w rows) q p ≡ joined (lies rows) w from to q p
+    outside le =
+        ap (λ (n : ℕ). lies (done ++ drop n rows) q p) (sym long) ∙ lies_behind done rows q p (omega arith)
+        ∙ sym (or_none (lies rows q p)) ∙ ap (λ (b : Bool). lies rows q p || (b && (lies rows q from && lies rows to p))) (sym (le-ltb q w le))

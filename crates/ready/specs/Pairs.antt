@@ -1,5 +1,5 @@
 -- The pairs of states that a table holds, as a row of sets, a set for each state.
-use Rattle.std.specs.Prelude.{◌≡◌, ℕ, ◌+◌, ◌/◌, ◌<◌, Bool, true, false, ◌&&◌, ◌||◌, List, [], replicate, nat_lt, slice_index_or}
+use Rattle.std.specs.Prelude.{◌≡◌, ℕ, ◌+◌, ◌/◌, ◌<◌, Bool, true, ◌&&◌, ◌||◌, List, [], replicate, nat_lt, slice_index_or}
 use Rattle.book.specs.Limits.{most_states}
 use Rattle.ready.specs.declared.state_set.StateSet.{StateSet}
 use Rattle.ready.specs.Sets.{has}
@@ -24,9 +24,6 @@ Rel = ℕ → ℕ → Bool
 abbrev pub joined : Rel → ℕ → ℕ → ℕ → Rel
 joined r width from to q p = r q p || (nat_lt q width && (r q from && r to p))
 
--- each pair of s at the states below the width is one of r; or one is not
+-- each pair of s at the states below the width is one of r
 abbrev pub Covering : ℕ → Rel → Rel → Type 0
 Covering width r s = (q p : ℕ) → q < width → s q p ≡ true → r q p ≡ true
-
-abbrev pub Uncovered : ℕ → Rel → Rel → Type 0
-Uncovered width r s = (q : ℕ) × (p : ℕ) × (q < width) × (s q p ≡ true) × (r q p ≡ false)

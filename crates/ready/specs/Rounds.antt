@@ -1,6 +1,6 @@
 -- Making ready finds pairs of states in rounds. The order in which it finds them is free; this is what holds of it,
 -- whatever the order: Finding, below.
-use Rattle.std.specs.Prelude.{◌≡◌, ℕ, ◌+◌, ◌*◌, ◌<◌, true, false, ◌↔◌, List, slice_index}
+use Rattle.std.specs.Prelude.{◌≡◌, ℕ, ◌<◌, true, false, ◌↔◌, List, [], slice_index, slice_index_or}
 use Rattle.book.specs.Limits.{tags}
 use Rattle.book.specs.Machines.{Machine, Lawful}
 use Rattle.book.specs.Rows.{Reach}
@@ -10,9 +10,9 @@ use Rattle.ready.specs.Pairs.{Rel}
 abbrev pub RowsLead : Machine → Rel → Type 0
 RowsLead m r = (q p : ℕ) → (r q p ≡ true) ↔ ((q < m.width) × Reach m q p)
 
--- the answers to enter, in a row, the tags of a state beside each other
-abbrev pub Entries : Machine → List ℕ → Type 0
-Entries m to = (q t : ℕ) → q < m.width → t < tags → slice_index to (q * tags + t) ≡ m.enter q t
+-- the answers to enter, a row of them for each state
+abbrev pub Entries : Machine → List (List ℕ) → Type 0
+Entries m to = (q t : ℕ) → q < m.width → t < tags → slice_index (slice_index_or to q []) t ≡ m.enter q t
 
 -- each pair of r is one of s
 abbrev pub Grown : Rel → Rel → Type 0

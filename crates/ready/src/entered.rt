@@ -1,31 +1,25 @@
 // The answers to `enter`, each asked for once.
-ghost use Rattle.std.specs.Prelude.{◌≡◌, ℕ, ◌+◌, ◌*◌, ◌<◌, slice_index};
+ghost use Rattle.std.specs.Prelude.{◌≡◌, ℕ, ◌<◌, [], slice_index, slice_index_or};
 ghost use Rattle.book.specs.Limits.{most_states, tags};
 ghost use Rattle.ready.specs.Rounds.{Entries};
 
-use crate::state_set::STATES;
+use book::limits::{MOST_STATES, TAGS};
 use book::shape_book::ShapeBook;
+use std::array;
 
-pub(crate) const TAGS: u8 = 32;
-
-// A state's tags stand beside each other.
-const PER_STATE: usize = TAGS as usize;
-
-const PLACES: usize = STATES as usize * PER_STATE;
-
+// By state and tag.
 #[derive(Drop)]
 pub(crate) struct Entered {
-    states: [u16; PLACES],
+    states: [[u16; TAGS as usize]; MOST_STATES as usize],
 }
 
 impl Entered {
     pub(crate) fn of<B: ShapeBook>(book: &B) -> Entered
         ensures { Entries (B.ShapeBook.machine book.now) result.states }
     {
-        let mut states = [0u16; PLACES];
-        let end = book.width() as usize * PER_STATE;
-        for place in 0..end {
-            states[place] = book.enter((place / PER_STATE) as u16, (place % PER_STATE) as u8);
+        let mut states = [[0; TAGS as usize]; MOST_STATES as usize];
+        for state in 0..book.width() {
+            states[state as usize] = array::from_fn(|tag| book.enter(state, tag as u8));
         }
         Entered { states }
     }
@@ -33,8 +27,8 @@ impl Entered {
     pub(crate) fn at(&self, state: u16, tag: u8) -> u16
         requires state_lt_most_states { state < most_states }
         requires tag_lt_tags { tag < tags }
-        ensures { result ≡ slice_index self.now.states (state * tags + tag) }
+        ensures { result ≡ slice_index (slice_index_or self.now.states state []) tag }
     {
-        self.states[state as usize * PER_STATE + tag as usize]
+        self.states[state as usize][tag as usize]
     }
 }

@@ -8,4 +8,3 @@ mod rounds;
 pub mod state_set;
 mod table;
 mod useless;
-mod words;

@@ -7,7 +7,7 @@ ghost use Rattle.ready.specs.Pairs.{lies};
 ghost use Rattle.ready.specs.Rounds.{RowsLead};
 ghost use Rattle.ready.specs.Sets.{has};
 
-use crate::rounds::saturate;
+use crate::rounds::find_pairs;
 use crate::state_set::StateSet;
 use crate::table::Table;
 use crate::useless::find_useless;
@@ -31,7 +31,7 @@ pub fn make_ready<B: ShapeBook>(book: B) -> Ready<B>
     ensures scans { AlwaysAnswerable (B.ShapeBook.machine book) }
     ensures watches { Watchable (B.ShapeBook.machine book) }
 {
-    let reach = saturate(&book);
+    let reach = find_pairs(&book);
     Ready { book, reach }
 }
 
@@ -85,10 +85,5 @@ impl<B: ShapeBook> Ready<B> {
 fn may_accept<B: ShapeBook>(book: &B, states: &StateSet) -> bool
     ensures { (result ≡ true) ↔ ((p : ℕ) × (has states.now.words p ≡ true) × ((B.ShapeBook.machine book.now).accepts p ≡ true)) }
 {
-    for state in 0..book.width() {
-        if states.contains(state) && book.accepts(state) {
-            return true;
-        }
-    }
-    false
+    (0..book.width()).any(|state| states.contains(state) && book.accepts(state))
 }

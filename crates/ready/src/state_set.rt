@@ -1,15 +1,14 @@
-// A set of states, a bit for each.
-ghost use Rattle.std.specs.Prelude.{◌≡◌, ℕ, false, ◌&&◌, ◌||◌, MatchBool, ◌==◌, nat_lt};
+// A set of states, a bit for each: q is a member if bit q % 64 of word q / 64 is set.
+ghost use Rattle.std.specs.Prelude.{◌≡◌, ℕ, ◌<◌, true, false, ◌&&◌, ◌||◌, ◌==◌, ◌↔◌, length, nat_lt};
 ghost use Rattle.book.specs.Limits.{most_states};
-ghost use Rattle.ready.specs.Sets.{has, Part, Beyond, Meeting, Apart};
+ghost use Rattle.ready.specs.Sets.{has, Part, Meeting};
 ghost use Rattle.ready.specs.Pairs.{empty_set};
 
-use crate::words::{add_member, add_members, is_meeting, is_member, is_part};
+use book::limits::MOST_STATES;
+use std::array;
 
-// The greatest width of a book. The numbers of words and of rows follow from it.
-pub const STATES: u16 = 64;
-
-const WORDS: usize = (STATES as usize + 63) / 64;
+// How many words hold a bit for each state.
+const WORDS: usize = (MOST_STATES as usize + 63) / 64;
 
 #[derive(Clone, Copy)]
 pub struct StateSet {
@@ -21,50 +20,79 @@ impl StateSet {
         ensures none { (q : ℕ) → has result.words q ≡ false }
         ensures same { result ≡ empty_set }
     {
-        StateSet::none()
+        StateSet { words: [0; WORDS] }
+    }
+
+    // The states below the width that pass the test.
+    pub fn of<F: Fn(u16) -> bool>(width: u16, test: F) -> StateSet
+        requires { F.IsAlwaysCallable test }
+        ensures within { (q : ℕ) → has result.words q ≡ true → q < width }
+        ensures tested { (q : ℕ) → q < width → q < most_states → F.post test q (has result.words q) }
+    {
+        let mut found = StateSet::empty();
+        for state in 0..width {
+            if test(state) {
+                found.insert(state);
+            }
+        }
+        found
     }
 
     pub fn contains(&self, state: u16) -> bool
         ensures { result ≡ has self.now.words state }
     {
-        is_member(&self.words, state)
+        let Some(word) = self.words.get(state as usize / 64) else {
+            return false;
+        };
+        (word >> (state % 64)) & 1 == 1
     }
 
     // A number that is no state of any book is left out.
     pub fn insert(&mut self, state: u16)
         ensures { (q : ℕ) → has self.new.words q ≡ (has self.old.words q || (nat_lt state most_states && q == state)) }
     {
-        if state < STATES {
-            add_member(&mut self.words, state);
+        if state < MOST_STATES {
+            self.words[state as usize / 64] |= 1 << (state % 64);
         }
     }
 
     pub fn union(&self, other: &StateSet) -> StateSet
         ensures { (q : ℕ) → has result.words q ≡ (has self.now.words q || has other.now.words q) }
     {
-        let mut words = self.words;
-        add_members(&mut words, &other.words);
-        StateSet { words }
+        StateSet {
+            words: array::from_fn(|place| self.words[place] | other.words[place]),
+        }
     }
 
     // Is each state of it one of `other`?
     pub fn is_subset(&self, other: &StateSet) -> bool
-        ensures { MatchBool result (Part self.now.words other.now.words) (Beyond self.now.words other.now.words) }
+        ensures { (result ≡ true) ↔ Part self.now.words other.now.words }
     {
         is_part(&self.words, &other.words)
     }
 
     // Have the two sets a state in common?
     pub fn intersects(&self, other: &StateSet) -> bool
-        ensures { MatchBool result (Meeting self.now.words other.now.words) (Apart self.now.words other.now.words) }
+        ensures { (result ≡ true) ↔ Meeting self.now.words other.now.words }
     {
         is_meeting(&self.words, &other.words)
     }
+}
 
-    fn none() -> StateSet
-        ensures none { (q : ℕ) → has result.words q ≡ false }
-        ensures same { result ≡ empty_set }
-    {
-        StateSet { words: [0; WORDS] }
-    }
+// These two take slices and are no part of the methods: that each word fits its type is known of a slice's, and not of an
+// array's behind a reference. They are shown once, over any number of words.
+fn is_part(words: &[u64], other: &[u64]) -> bool
+    requires { length other.now ≡ length words.now }
+    ensures { (result ≡ true) ↔ Part words.now other.now }
+{
+    let mut pairs = words.iter().zip(other);
+    pairs.all(|(word, more)| word & more == *word)
+}
+
+fn is_meeting(words: &[u64], other: &[u64]) -> bool
+    requires { length other.now ≡ length words.now }
+    ensures { (result ≡ true) ↔ Meeting words.now other.now }
+{
+    let mut pairs = words.iter().zip(other);
+    pairs.any(|(word, more)| word & more != 0)
 }

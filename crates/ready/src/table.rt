@@ -1,27 +1,17 @@
 // For each state a set of states.
-ghost use Rattle.std.specs.Prelude.{◌≡◌, ℕ, ◌<◌, ◌≤◌, false, ◌&&◌, ◌||◌, MatchBool, ◌==◌, nat_lt};
+ghost use Rattle.std.specs.Prelude.{◌≡◌, ℕ, ◌≤◌, true, false, ◌&&◌, ◌==◌, ◌↔◌, nat_lt};
 ghost use Rattle.book.specs.Limits.{most_states};
 ghost use Rattle.ready.specs.Sets.{has};
-ghost use Rattle.ready.specs.Pairs.{lies, joined, Covering, Uncovered};
+ghost use Rattle.ready.specs.Pairs.{lies, joined, Covering};
 
-use crate::state_set::{STATES, StateSet};
+use crate::state_set::StateSet;
+use book::limits::MOST_STATES;
 
-const ROWS: usize = STATES as usize;
+const ROWS: usize = MOST_STATES as usize;
 
 #[derive(Clone, Copy)]
 pub(crate) struct Table {
     rows: [StateSet; ROWS],
-}
-
-// A state past the last row has the empty set.
-fn row_at(rows: &[StateSet], state: u16) -> StateSet
-    ensures { (p : ℕ) → has result.words p ≡ lies rows.now state p }
-{
-    let place = state as usize;
-    if place >= rows.len() {
-        return StateSet::empty();
-    }
-    rows[place]
 }
 
 impl Table {
@@ -40,17 +30,17 @@ impl Table {
     {
         let mut table = Table::empty();
         for q in 0..width {
-            let mut row = StateSet::empty();
-            row.insert(q);
-            table.rows[q as usize] = row;
+            table.rows[q as usize].insert(q);
         }
         table
     }
 
+    // A state past the last row has the empty set.
     pub(crate) fn row(&self, state: u16) -> StateSet
         ensures { (p : ℕ) → has result.words p ≡ lies self.now.rows state p }
     {
-        row_at(&self.rows, state)
+        let row = self.rows.get(state as usize);
+        row.copied().unwrap_or(StateSet::empty())
     }
 
     pub(crate) fn contains(&self, state: u16, other: u16) -> bool
@@ -59,16 +49,22 @@ impl Table {
         self.row(state).contains(other)
     }
 
+    // Does the state lead to one of `ends`?
+    pub(crate) fn leads_into(&self, state: u16, ends: &StateSet) -> bool
+        ensures { (result ≡ true) ↔ ((p : ℕ) × (lies self.now.rows state p ≡ true) × (has ends.now.words p ≡ true)) }
+    {
+        self.row(state).intersects(ends)
+    }
+
     // Each state that leads to `from` leads on to what `to` leads to.
     pub(crate) fn join(&mut self, from: u16, to: u16, width: u16)
         requires { width ≤ most_states }
         ensures { (q p : ℕ) → lies self.new.rows q p ≡ joined (lies self.old.rows) width from to q p }
     {
         let more = self.row(to);
-        for q in 0..width {
-            let place = q as usize;
-            if self.rows[place].contains(from) {
-                self.rows[place] = self.rows[place].union(&more);
+        for row in &mut self.rows[..width as usize] {
+            if row.contains(from) {
+                *row = row.union(&more);
             }
         }
     }
@@ -76,14 +72,8 @@ impl Table {
     // Has it each pair of `other`, at the states below `width`?
     pub(crate) fn covers(&self, other: &Table, width: u16) -> bool
         requires { width ≤ most_states }
-        ensures { MatchBool result (Covering width (lies self.now.rows) (lies other.now.rows)) (Uncovered width (lies self.now.rows) (lies other.now.rows)) }
+        ensures { (result ≡ true) ↔ Covering width (lies self.now.rows) (lies other.now.rows) }
     {
-        for q in 0..width {
-            let place = q as usize;
-            if !other.rows[place].is_subset(&self.rows[place]) {
-                return false;
-            }
-        }
-        true
+        (0..width).all(|q| other.row(q).is_subset(&self.row(q)))
     }
 }

@@ -7,33 +7,22 @@ ghost use Rattle.ready.specs.Pairs.{lies};
 ghost use Rattle.ready.specs.Rounds.{RowsLead};
 ghost use Rattle.ready.specs.Sets.{has};
 
-use crate::entered::TAGS;
 use crate::state_set::StateSet;
 use crate::table::Table;
+use book::limits::TAGS;
 use book::shape_book::ShapeBook;
 
 // Does the close of an item with some tag lead from these two states to one of `useful`?
 fn closes_from<B: ShapeBook>(book: &B, outer: u16, inner: u16, useful: &StateSet) -> bool
     ensures { (result ≡ true) ↔ ((t : ℕ) × (t < tags) × (has useful.now.words ((B.ShapeBook.machine book.now).back outer inner t) ≡ true)) }
 {
-    for tag in 0..TAGS {
-        if useful.contains(book.back(outer, inner, tag)) {
-            return true;
-        }
-    }
-    false
+    (0..TAGS).any(|tag| useful.contains(book.back(outer, inner, tag)))
 }
 
 fn closes<B: ShapeBook>(book: &B, inner: u16, useful: &StateSet) -> bool
     ensures { (result ≡ true) ↔ Closes (B.ShapeBook.machine book.now) (has useful.now.words) inner }
 {
-    let width = book.width();
-    for outer in 0..width {
-        if closes_from(book, outer, inner, useful) {
-            return true;
-        }
-    }
-    false
+    (0..book.width()).any(|outer| closes_from(book, outer, inner, useful))
 }
 
 // Does the book accept the state, or does its item's close lead to one of `useful`?
@@ -46,36 +35,22 @@ fn stops<B: ShapeBook>(book: &B, state: u16, useful: &StateSet) -> bool
 fn all_stops<B: ShapeBook>(book: &B, useful: &StateSet) -> StateSet
     ensures { (p : ℕ) → (has result.words p ≡ true) ↔ ((p < (B.ShapeBook.machine book.now).width) × Stops (B.ShapeBook.machine book.now) (has useful.now.words) p) }
 {
-    let width = book.width();
-    let mut found = StateSet::empty();
-    for state in 0..width {
-        if stops(book, state, useful) {
-            found.insert(state);
-        }
-    }
-    found
+    StateSet::of(book.width(), |state| stops(book, state, useful))
 }
 
 // The states from which a row of whole items leads to where it may end.
 fn useful_before<B: ShapeBook>(book: &B, reach: &Table, useful: &StateSet) -> StateSet
     ensures { (q : ℕ) → (has result.words q ≡ true) ↔ ((q < (B.ShapeBook.machine book.now).width) × ((p : ℕ) × (lies reach.now.rows q p ≡ true) × (p < (B.ShapeBook.machine book.now).width) × Stops (B.ShapeBook.machine book.now) (has useful.now.words) p)) }
 {
-    let width = book.width();
     let ends = all_stops(book, useful);
-    let mut found = StateSet::empty();
-    for state in 0..width {
-        if reach.row(state).intersects(&ends) {
-            found.insert(state);
-        }
-    }
-    found
+    StateSet::of(book.width(), |state| reach.leads_into(state, &ends))
 }
 
 fn find_useful<B: ShapeBook>(book: &B, reach: &Table) -> StateSet
     ensures { RowsLead (B.ShapeBook.machine book.now) (lies reach.now.rows) → (q : ℕ) → (has result.words q ≡ true) ↔ ((q < (B.ShapeBook.machine book.now).width) × Useful (B.ShapeBook.machine book.now) q) }
 {
     let mut useful = StateSet::empty();
-    'growing: loop {
+    loop {
         let before = useful_before(book, reach, &useful);
         if before.is_subset(&useful) {
             return useful;
@@ -87,13 +62,6 @@ fn find_useful<B: ShapeBook>(book: &B, reach: &Table) -> StateSet
 pub(crate) fn find_useless<B: ShapeBook>(book: &B, reach: &Table) -> StateSet
     ensures { RowsLead (B.ShapeBook.machine book.now) (lies reach.now.rows) → (q : ℕ) → (has result.words q ≡ true) ↔ Useless (B.ShapeBook.machine book.now) q }
 {
-    let width = book.width();
     let useful = find_useful(book, reach);
-    let mut found = StateSet::empty();
-    for state in 0..width {
-        if !useful.contains(state) {
-            found.insert(state);
-        }
-    }
-    found
+    StateSet::of(book.width(), |state| !useful.contains(state))
 }

@@ -1,11 +1,10 @@
-use Rattle.std.proofs.Common.{ℕ}
+use Rattle.std.proofs.Common.{◌≡◌, ℕ}
 use Rattle.ready.specs.Pairs.{lies}
-use Rattle.ready.specs.Rounds.{Finding}
 use Rattle.ready.proofs.Counts.{lacks}
 use Rattle.ready.proofs.rounds.find_pairs.Given as goal
 
-abbrev pub invariant-rounds : goal.invariant-rounds
-invariant-rounds g l = Finding (g.B.ShapeBook.machine l.book) (lies l.initial.table.rows) (lies l.asked.rows) (lies l.table.rows)
+abbrev pub invariant-loop : goal.invariant-loop
+invariant-loop g l = l.search.book.now ≡ l.book
 
-abbrev pub decreases-rounds : goal.decreases-rounds
-decreases-rounds g l = let w : ℕ = (g.B.ShapeBook.machine l.book).width in lacks (lies l.table.rows) w w
+abbrev pub decreases-loop : goal.decreases-loop
+decreases-loop g l = let w : ℕ = (g.B.ShapeBook.machine l.book).width in lacks (lies l.search.table.rows) w w

@@ -1,12 +1,11 @@
-use Rattle.std.proofs.Common.{arith, below_more}
-use Rattle.std.proofs.lemmas.Bool.{false≢true}
+use Rattle.std.proofs.Common.{◌≡◌, ℕ, ◌<◌, true, rules}
+use Rattle.book.specs.Limits.{tags}
+use Rattle.ready.specs.Sets.{has}
+use Rattle.ready.proofs.RangeTests.{any_below}
 use Rattle.ready.proofs.useless.closes.Goals as goal
 
-pub loop-outer-preserved : goal.loop-outer-preserved
-loop-outer-preserved g c = below_more _ _ c.loop-outer.invariant (λ found. false≢true (c.if-closes_from.ensures.1 found))
-
 pub returns : goal.returns
-returns g c = (
-  (λ e. absurd (false≢true e)),
-  λ found. absurd (c.loop-outer.invariant found.0 (omega (arith, found.1, c.width-width.ensures)) found.2),
-)
+returns g c =
+    let m = g.B.ShapeBook.machine c.args.book.now in
+    any_below (λ s. (t : ℕ) × (t < tags) × (has c.args.useful.now.words (m.back s c.args.inner t) ≡ true)) m.width c.any.new.self _
+    (λ s b f k. search rules) (search rules) c.any.result c.any.ensures.ran

@@ -6,10 +6,10 @@ use Rattle.ready.specs.Dead.{Useful}
 use Rattle.ready.proofs.Counts.{lack}
 use Rattle.ready.proofs.useless.find_useful.Given as goal
 
-abbrev pub invariant-growing : goal.invariant-growing
-invariant-growing g l =
+abbrev pub invariant-loop-before : goal.invariant-loop-before
+invariant-loop-before g l =
     let m = g.B.ShapeBook.machine l.book in
     (q : ℕ) → has l.useful.words q ≡ true → (q < m.width) × (RowsLead m (lies l.reach.rows) → Useful m q)
 
-abbrev pub decreases-growing : goal.decreases-growing
-decreases-growing g l = lack (has l.useful.words) (g.B.ShapeBook.machine l.book).width
+abbrev pub decreases-loop-before : goal.decreases-loop-before
+decreases-loop-before g l = lack (has l.useful.words) (g.B.ShapeBook.machine l.book).width

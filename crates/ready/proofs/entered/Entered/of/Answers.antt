@@ -1,21 +1,28 @@
-use Rattle.std.proofs.Common.{◌≡◌, ◌+◌, ◌*◌, ◌/◌, ◌%◌, ◌<◌, ◌≢◌, length, ◌∙◌, ap₂, arith, length-set, get_or-set_other, get_or-set_same, below_more}
+use Rattle.std.proofs.Common.{◌≡◌, ℕ, ◌<◌, ◌≢◌, [], List, length, get_or, set, ap, ◌∙◌, rules, arith, below_more, length-set, get_or-set_same, get_or-set_other}
 use Rattle.book.specs.Limits.{tags}
 use Rattle.ready.proofs.entered.Entered.of.Goals as goal
 
-pub loop-place-preserved : goal.loop-place-preserved
-loop-place-preserved g c =
-    let i = c.loop-place.place in
-    let law = g.B.ShapeBook.lawful c.args.book.now in
-    let lt : i < length c.loop-place.states = omega (arith, law.narrow, c.width.ensures, c.loop-place.invariant.0) in (
-      simp length-set c.loop-place.invariant.0,
-      below_more _ _
-          (λ k h. let ne : k ≢ i = omega arith in rw get_or-set_other (c.loop-place.invariant.1 k h))
-          (get_or-set_same c.loop-place.states i _ 0 lt ∙ c.enter.ensures),
-    )
+pub loop-state-preserved : goal.loop-state-preserved
+loop-state-preserved g c = (simp length-set c.loop-state.invariant.0, below_more _ _ old new)
+  where
+    i : ℕ
+    i = c.loop-state.state-counter
 
-pub returns : goal.returns
-returns g c q t hq ht =
-    let m = g.B.ShapeBook.machine c.args.book.now in
-    let row : (q * tags + t) / tags ≡ q = omega arith in
-    let tag : (q * tags + t) % tags ≡ t = omega arith in
-    c.loop-place.invariant.1 (q * tags + t) (omega (arith, c.width.ensures, hq, ht)) ∙ ap₂ m.enter row tag
+    rows : List (List ℕ)
+    rows = c.loop-state.states
+
+    enter : ℕ → ℕ → ℕ
+    enter = (g.B.ShapeBook.machine c.args.book.now).enter
+
+    long : i < length rows
+    long = omega (arith, c.loop-state.invariant.0, (g.B.ShapeBook.lawful c.args.book.now).narrow, c.width-state-end.ensures)
+
+    old : (k : ℕ) → k < i → (t : ℕ) → t < tags → get_or (get_or (set rows i c.from_fn.result) k []) t 0 ≡ enter k t
+    old k below t ht =
+        let n : k ≢ i = omega arith in
+        ap (λ (r : List ℕ). get_or r t 0) (get_or-set_other rows i k c.from_fn.result [] n) ∙ c.loop-state.invariant.1 k below t ht
+
+    new : (t : ℕ) → t < tags → get_or (get_or (set rows i c.from_fn.result) i []) t 0 ≡ enter i t
+    new t ht =
+        let call = (c.from_fn.ensures.items.at t 0 ht).2 in
+        ap (λ (r : List ℕ). get_or r t 0) (get_or-set_same rows i c.from_fn.result [] long) ∙ search rules

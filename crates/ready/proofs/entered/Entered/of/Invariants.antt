@@ -1,8 +1,8 @@
-use Rattle.std.proofs.Common.{◌≡◌, ℕ, ◌*◌, ◌/◌, ◌%◌, ◌<◌, length, get_or}
+use Rattle.std.proofs.Common.{◌≡◌, ℕ, ◌<◌, [], length, slice_index, slice_index_or}
 use Rattle.book.specs.Limits.{most_states, tags}
 use Rattle.ready.proofs.entered.Entered.of.Given as goal
 
-abbrev pub invariant-loop-place : goal.invariant-loop-place
-invariant-loop-place g l =
-    (length l.states ≡ most_states * tags)
-    × ((k : ℕ) → k < l.place → get_or l.states k 0 ≡ (g.B.ShapeBook.machine l.book).enter (k / tags) (k % tags))
+abbrev pub invariant-loop-state : goal.invariant-loop-state
+invariant-loop-state g l =
+    (length l.states ≡ most_states)
+    × ((q : ℕ) → q < l.state-counter → (t : ℕ) → t < tags → slice_index (slice_index_or l.states q []) t ≡ (g.B.ShapeBook.machine l.book).enter q t)
