@@ -1,5 +1,5 @@
 -- Sets of states that are filled state by state, and sets that meet. Assumes nothing.
-use Rattle.std.proofs.Common.{◌≡◌, ℕ, ◌+◌, ◌<◌, ◌≤◌, Bool, true, false, ◌&&◌, ◌||◌, eqb, ltb, ◌≢◌, ◌⊎◌, MatchBool, sym, ap, ◌∙◌, inl, inr, arith}
+use Rattle.std.proofs.Common.{◌≡◌, ℕ, ◌+◌, ◌<◌, ◌≤◌, Bool, true, false, ◌&&◌, ◌||◌, eqb, ltb, ◌≢◌, ◌⊎◌, ◌↔◌, sym, refl, ap, ◌∙◌, inl, inr, arith}
 use Rattle.std.proofs.lemmas.Bool.{lt-ltb, le-ltb, eq-eqb, ne_eqb, cases_lt, cases_eq, cases_Bool, and_from, and_parts, both_ways}
 use Rattle.std.proofs.Math.Bool.{or-false, and-false, and-true}
 use Rattle.book.specs.Tables.{some_below}
@@ -44,17 +44,17 @@ next_state P i q old new w o e n =
 -- Meeting ---------------------------------------------------------------------------------------------------------
 
 -- two sets meet, the second of which lies below n
-pub meets_below : (r : Bool) (f g : ℕ → Bool) (n : ℕ) → ((q : ℕ) → g q ≡ true → q < n)
-    → MatchBool r ((q : ℕ) × (f q ≡ true) × (g q ≡ true)) ((q : ℕ) → f q ≡ true → g q ≡ false) → r ≡ some_below n (λ p. f p && g p)
-meets_below true f g n small w = sym (found_some n (λ p. f p && g p) w.0 (small w.0 w.2) (and_from (f w.0) (g w.0) w.1 w.2))
+meets_below : (r : Bool) (f g : ℕ → Bool) (n : ℕ) → ((q : ℕ) → g q ≡ true → q < n)
+    → ((r ≡ true) ↔ ((q : ℕ) × (f q ≡ true) × (g q ≡ true))) → r ≡ some_below n (λ p. f p && g p)
+meets_below true f g n small w = let z = w.0 refl in sym (found_some n (λ p. f p && g p) z.0 (small z.0 z.2) (and_from (f z.0) (g z.0) z.1 z.2))
 meets_below false f g n small w = elim (cases_Bool (some_below n (λ p. f p && g p))) [
-  | inl y ↦ (let k = some_found n (λ p. f p && g p) y in let z = and_parts (f k.0) (g k.0) k.2 in absurd (both_ways (g k.0) (w k.0 z.0) z.1))
+  | inl y ↦ (let k = some_found n (λ p. f p && g p) y in let z = and_parts (f k.0) (g k.0) k.2 in absurd (both_ways false refl (w.1 (k.0, z.0, z.1))))
   | inr y ↦ sym y
 ]
 
 -- where the row of a state is its row in the table
 pub row_meets : (r : Bool) (row reach set : ℕ → Bool) (n : ℕ) → ((p : ℕ) → row p ≡ reach p) → ((q : ℕ) → set q ≡ true → q < n)
-    → MatchBool r ((q : ℕ) × (row q ≡ true) × (set q ≡ true)) ((q : ℕ) → row q ≡ true → set q ≡ false) → r ≡ some_below n (λ p. reach p && set p)
+    → ((r ≡ true) ↔ ((q : ℕ) × (row q ≡ true) × (set q ≡ true))) → r ≡ some_below n (λ p. reach p && set p)
 row_meets r row reach set n same small w =
     meets_below r row set n small w ∙ some_below_alike n (λ p. row p && set p) (λ p. reach p && set p) (λ k _. ap (λ (b : Bool). b && set k) (same k))
 
