@@ -1,7 +1,7 @@
 // A scan keeps its runs as cells: at each level one for the base run, and one for each held item. What two runs have in
 // common is kept once, since a cell names the cell of the level around it that its run came from.
 ghost use Rattle.std.specs.Prelude.{◌≡◌};
-ghost use Rattle.levels.specs.Sets.{reach_of};
+ghost use Rattle.levels.specs.Sets.{machine_of, reach_of};
 ghost use Rattle.scan.specs.Model.{is_due, is_held, note};
 ghost use Rattle.cells.specs.Cells.{no_cell, cell_at, seen, alone, first_seen, entered_seen, left_seen, beside_seen};
 
@@ -13,7 +13,7 @@ use ready::ready::Ready;
 
 #[derive(Clone, Copy)]
 pub struct Cell {
-    // the item whose run it is, and the event that opened it; the base run has 0 and 0
+    // the item whose run it is, and the event that opened it; the base run has 0 and 0, which nothing reads
     item: u32,
     since: u32,
     // the run's cell in the level around this one
@@ -36,39 +36,35 @@ impl Cell {
 
     // The base run before any event.
     pub fn base<B: ShapeBook>(ready: &Ready<B>) -> Cell
-        ensures { seen result ≡ first_seen (reach_of ready.now) (B.ShapeBook.machine ready.now.book) }
+        ensures { seen result ≡ first_seen (reach_of ready.now) (machine_of ready.now) }
     {
         Cell {
-            item: 0,
-            since: 0,
-            parent: 0,
             level: Level::outermost(ready),
+            ..Cell::blank()
         }
     }
 
     // The run inside an item of tag `tag` that opens: this cell, which is at `place`, is the one around it.
     pub fn entered<B: ShapeBook>(&self, ready: &Ready<B>, place: u8, tag: u8) -> Cell
-        ensures { seen result ≡ entered_seen (reach_of ready.now) (B.ShapeBook.machine ready.now.book) place tag (seen self.now) }
+        ensures { seen result ≡ entered_seen (reach_of ready.now) (machine_of ready.now) place tag (seen self.now) }
     {
         let state = ready.book().enter(self.level.state(), tag);
         Cell {
-            item: self.item,
-            since: self.since,
             parent: place,
             level: self.level.inside(ready, state, tag),
+            ..*self
         }
     }
 
     // The run behind an item of tag `tag` that closes; the cells around are those of the level that it goes on in.
     pub fn left<B: ShapeBook>(&self, ready: &Ready<B>, around: &[Cell], tag: u8) -> Cell
-        ensures { seen result ≡ left_seen (B.ShapeBook.machine ready.now.book) tag around.now (seen self.now) }
+        ensures { seen result ≡ left_seen (machine_of ready.now) tag around.now (seen self.now) }
     {
         let outer = cell_at(around, self.parent as usize);
         Cell {
-            item: self.item,
-            since: self.since,
             parent: outer.parent,
             level: outer.level.behind(ready, self.level.state(), tag),
+            ..*self
         }
     }
 
@@ -79,8 +75,8 @@ impl Cell {
         Cell {
             item,
             since,
-            parent: self.parent,
             level: self.level.at(state),
+            ..*self
         }
     }
 
@@ -92,14 +88,14 @@ impl Cell {
 
     // Once this event has been, is the item selected whatever follows?
     pub fn is_due<B: ShapeBook>(&self, ready: &Ready<B>, event: Event) -> bool
-        ensures { result ≡ is_due (B.ShapeBook.machine ready.now.book) event (alone (seen self.now)) }
+        ensures { result ≡ is_due (machine_of ready.now) event (alone (seen self.now)) }
     {
         !self.level.may_be(ready, event, false)
     }
 
     // Can it be selected, and can it be left out?
     pub fn is_held<B: ShapeBook>(&self, ready: &Ready<B>, event: Event) -> bool
-        ensures { result ≡ is_held (B.ShapeBook.machine ready.now.book) event (alone (seen self.now)) }
+        ensures { result ≡ is_held (machine_of ready.now) event (alone (seen self.now)) }
     {
         self.level.may_be(ready, event, true) && self.level.may_be(ready, event, false)
     }
@@ -120,14 +116,5 @@ impl Cell {
 pub fn cell_at(cells: &[Cell], place: usize) -> Cell
     ensures { result ≡ cell_at cells.now place }
 {
-    find_cell(cells, place)
-}
-
-fn find_cell(cells: &[Cell], place: usize) -> Cell
-    ensures { result ≡ cell_at cells.now place }
-{
-    if place >= cells.len() {
-        return Cell::blank();
-    }
-    cells[place]
+    cells.get(place).copied().unwrap_or(Cell::blank())
 }

@@ -1,22 +1,12 @@
 -- Sets of states that are filled state by state, and sets that meet. Assumes nothing.
-use Rattle.std.proofs.Common.{◌≡◌, ℕ, zero, suc, ◌+◌, ◌<◌, ◌≤◌, Bool, true, false, ◌&&◌, ◌||◌, eqb, ltb, ◌≢◌, ◌⊎◌, MatchBool, sym, refl, ap, ◌∙◌, inl, inr, arith}
+use Rattle.std.proofs.Common.{◌≡◌, ℕ, ◌+◌, ◌<◌, ◌≤◌, Bool, true, false, ◌&&◌, ◌||◌, eqb, ltb, ◌≢◌, ◌⊎◌, ◌↔◌, sym, refl, ap, ◌∙◌, inl, inr, arith}
 use Rattle.std.proofs.lemmas.Bool.{lt-ltb, le-ltb, eq-eqb, ne_eqb, cases_lt, cases_eq, cases_Bool, and_from, and_parts, both_ways}
+use Rattle.std.proofs.Math.Bool.{or-false, and-false, and-true}
 use Rattle.book.specs.Tables.{some_below}
 use Rattle.book.proofs.Tables.{some_found, found_some}
+use Rattle.scan.proofs.Tracks.{some_below_alike}
 
 -- Filling ---------------------------------------------------------------------------------------------------------
-
-or_false : (x : Bool) → (x || false) ≡ x
-or_false true = refl
-or_false false = refl
-
-and_false : (x : Bool) → (x && false) ≡ false
-and_false true = refl
-and_false false = refl
-
-and_true : (x : Bool) → (x && true) ≡ x
-and_true true = refl
-and_true false = refl
 
 -- no state has been asked about
 pub no_state : (P : ℕ → Bool) (q : ℕ) (b : Bool) → b ≡ false → b ≡ (ltb q 0 && P q)
@@ -31,19 +21,19 @@ next_state P i q old new w o e n =
     low lt =
         ap (λ (b : Bool). (b && P q) || (P i && eqb q i)) (lt-ltb q i lt)
         ∙ ap (λ (b : Bool). P q || (P i && b)) (ne_eqb q i (λ z. omega arith))
-        ∙ ap (λ (b : Bool). P q || b) (and_false (P i)) ∙ or_false (P q)
+        ∙ ap (λ (b : Bool). P q || b) (and-false (P i)) ∙ or-false (P q)
         ∙ ap (λ (b : Bool). b && P q) (sym (lt-ltb q (i + 1) (omega arith)))
 
     same : q ≡ i → ((ltb q i && P q) || (P i && eqb q i)) ≡ (ltb q (i + 1) && P q)
     same z =
         ap (λ (b : Bool). (b && P q) || (P i && eqb q i)) (le-ltb q i (omega arith))
-        ∙ ap (λ (b : Bool). P i && b) (eq-eqb q i z) ∙ and_true (P i) ∙ ap P (sym z)
+        ∙ ap (λ (b : Bool). P i && b) (eq-eqb q i z) ∙ and-true (P i) ∙ ap P (sym z)
         ∙ ap (λ (b : Bool). b && P q) (sym (lt-ltb q (i + 1) (omega arith)))
 
     high : i ≤ q → (q ≡ i → ⊥) → ((ltb q i && P q) || (P i && eqb q i)) ≡ (ltb q (i + 1) && P q)
     high le ne =
         ap (λ (b : Bool). (b && P q) || (P i && eqb q i)) (le-ltb q i le)
-        ∙ ap (λ (b : Bool). P i && b) (ne_eqb q i ne) ∙ and_false (P i)
+        ∙ ap (λ (b : Bool). P i && b) (ne_eqb q i ne) ∙ and-false (P i)
         ∙ ap (λ (b : Bool). b && P q) (sym (le-ltb q (i + 1) (let z : q ≢ i = ne in omega arith)))
 
     go : (q < i) ⊎ (i ≤ q) → (q ≡ i) ⊎ (q ≡ i → ⊥) → ((ltb q i && P q) || (P i && eqb q i)) ≡ (ltb q (i + 1) && P q)
@@ -53,27 +43,22 @@ next_state P i q old new w o e n =
 
 -- Meeting ---------------------------------------------------------------------------------------------------------
 
--- tests that agree below n
-pub some_like : (n : ℕ) (f g : ℕ → Bool) → ((k : ℕ) → k < n → f k ≡ g k) → some_below n f ≡ some_below n g
-some_like zero f g same = refl
-some_like (suc n) f g same = λ i. same n (omega arith) i || some_like n f g (λ k lt. same k (omega arith)) i
-
 -- two sets meet, the second of which lies below n
-pub meets_below : (r : Bool) (f g : ℕ → Bool) (n : ℕ) → ((q : ℕ) → g q ≡ true → q < n)
-    → MatchBool r ((q : ℕ) × (f q ≡ true) × (g q ≡ true)) ((q : ℕ) → f q ≡ true → g q ≡ false) → r ≡ some_below n (λ p. f p && g p)
-meets_below true f g n small w = sym (found_some n (λ p. f p && g p) w.0 (small w.0 w.2) (and_from (f w.0) (g w.0) w.1 w.2))
+meets_below : (r : Bool) (f g : ℕ → Bool) (n : ℕ) → ((q : ℕ) → g q ≡ true → q < n)
+    → ((r ≡ true) ↔ ((q : ℕ) × (f q ≡ true) × (g q ≡ true))) → r ≡ some_below n (λ p. f p && g p)
+meets_below true f g n small w = let z = w.0 refl in sym (found_some n (λ p. f p && g p) z.0 (small z.0 z.2) (and_from (f z.0) (g z.0) z.1 z.2))
 meets_below false f g n small w = elim (cases_Bool (some_below n (λ p. f p && g p))) [
-  | inl y ↦ (let k = some_found n (λ p. f p && g p) y in let z = and_parts (f k.0) (g k.0) k.2 in absurd (both_ways (g k.0) (w k.0 z.0) z.1))
+  | inl y ↦ (let k = some_found n (λ p. f p && g p) y in let z = and_parts (f k.0) (g k.0) k.2 in absurd (both_ways false refl (w.1 (k.0, z.0, z.1))))
   | inr y ↦ sym y
 ]
 
 -- where the row of a state is its row in the table
 pub row_meets : (r : Bool) (row reach set : ℕ → Bool) (n : ℕ) → ((p : ℕ) → row p ≡ reach p) → ((q : ℕ) → set q ≡ true → q < n)
-    → MatchBool r ((q : ℕ) × (row q ≡ true) × (set q ≡ true)) ((q : ℕ) → row q ≡ true → set q ≡ false) → r ≡ some_below n (λ p. reach p && set p)
+    → ((r ≡ true) ↔ ((q : ℕ) × (row q ≡ true) × (set q ≡ true))) → r ≡ some_below n (λ p. reach p && set p)
 row_meets r row reach set n same small w =
-    meets_below r row set n small w ∙ some_like n (λ p. row p && set p) (λ p. reach p && set p) (λ k _. ap (λ (b : Bool). b && set k) (same k))
+    meets_below r row set n small w ∙ some_below_alike n (λ p. row p && set p) (λ p. reach p && set p) (λ k _. ap (λ (b : Bool). b && set k) (same k))
 
 -- a test that holds only below n, put behind a look into the table
 pub some_tested : (n : ℕ) (reach raw g : ℕ → Bool) → ((k : ℕ) → raw k ≡ (ltb k n && g k)) → some_below n (λ p. reach p && raw p) ≡ some_below n (λ p. reach p && g p)
 some_tested n reach raw g is =
-    some_like n (λ p. reach p && raw p) (λ p. reach p && g p) (λ k lt. ap (λ (b : Bool). reach k && b) (is k ∙ ap (λ (b : Bool). b && g k) (lt-ltb k n lt)))
+    some_below_alike n (λ p. reach p && raw p) (λ p. reach p && g p) (λ k lt. ap (λ (b : Bool). reach k && b) (is k ∙ ap (λ (b : Bool). b && g k) (lt-ltb k n lt)))

@@ -1,7 +1,7 @@
 // One level of a run.
 ghost use Rattle.std.specs.Prelude.{◌≡◌, Bool, []};
 ghost use Rattle.scan.specs.Tracks.{level, track, first, inside, may};
-ghost use Rattle.levels.specs.Sets.{reach_of};
+ghost use Rattle.levels.specs.Sets.{machine_of, reach_of};
 ghost use Rattle.levels.specs.Levels.{level_of, blank};
 
 use crate::sets::Sets;
@@ -32,21 +32,29 @@ impl Level {
 
     // The level outside all items, before any event.
     pub fn outermost<B: ShapeBook>(ready: &Ready<B>) -> Level
-        ensures { level_of result ≡ (first (reach_of ready.now) (B.ShapeBook.machine ready.now.book)).top }
+        ensures { level_of result ≡ (first (reach_of ready.now) (machine_of ready.now)).top }
     {
-        first_level(ready)
+        let ending = Sets::ending(ready);
+        Level {
+            state: ready.book().start(),
+            sets: ending.widened(ready),
+        }
     }
 
     // The level inside an item of tag `tag` that opens here and is entered in the state `state`.
     pub fn inside<B: ShapeBook>(&self, ready: &Ready<B>, state: u16, tag: u8) -> Level
-        ensures { level_of result ≡ level state (inside (reach_of ready.now) (B.ShapeBook.machine ready.now.book) tag (level_of self.now)) }
+        ensures { level_of result ≡ level state (inside (reach_of ready.now) (machine_of ready.now) tag (level_of self.now)) }
     {
-        inner_level(self, ready, state, tag)
+        let closing = self.sets.closing(ready, self.state, tag);
+        Level {
+            state,
+            sets: closing.widened(ready),
+        }
     }
 
     // This level again, once the item of tag `tag` has closed in whose level the run stood in the state `inner`.
     pub fn behind<B: ShapeBook>(&self, ready: &Ready<B>, inner: u16, tag: u8) -> Level
-        ensures { level_of result ≡ level ((B.ShapeBook.machine ready.now.book).back self.now.state inner tag) (level_of self.now).can }
+        ensures { level_of result ≡ level ((machine_of ready.now).back self.now.state inner tag) (level_of self.now).can }
     {
         self.at(ready.book().back(self.state, inner, tag))
     }
@@ -55,10 +63,7 @@ impl Level {
     pub fn at(&self, state: u16) -> Level
         ensures { level_of result ≡ level state (level_of self.now).can }
     {
-        Level {
-            state,
-            sets: self.sets,
-        }
+        Level { state, ..*self }
     }
 
     pub fn state(&self) -> u16
@@ -69,32 +74,11 @@ impl Level {
 
     // Can the catalogue still get the answer `wanted`, once this event has been? After the end the state alone says.
     pub fn may_be<B: ShapeBook>(&self, ready: &Ready<B>, event: Event, wanted: bool) -> bool
-        ensures { result ≡ may (B.ShapeBook.machine ready.now.book) event wanted (track (level_of self.now) []) }
+        ensures { result ≡ may (machine_of ready.now) event wanted (track (level_of self.now) []) }
     {
         match event {
-            Event::Open(_) => self.sets.contains(wanted, self.state),
-            Event::Close(_) => self.sets.contains(wanted, self.state),
+            Event::Open(_) | Event::Close(_) => self.sets.contains(wanted, self.state),
             Event::End => ready.book().accepts(self.state) == wanted,
         }
-    }
-}
-
-fn first_level<B: ShapeBook>(ready: &Ready<B>) -> Level
-    ensures { level_of result ≡ (first (reach_of ready.now) (B.ShapeBook.machine ready.now.book)).top }
-{
-    let ending = Sets::ending(ready);
-    Level {
-        state: ready.book().start(),
-        sets: ending.widened(ready),
-    }
-}
-
-fn inner_level<B: ShapeBook>(around: &Level, ready: &Ready<B>, state: u16, tag: u8) -> Level
-    ensures { level_of result ≡ level state (inside (reach_of ready.now) (B.ShapeBook.machine ready.now.book) tag (level_of around.now)) }
-{
-    let closing = around.sets.closing(ready, around.state, tag);
-    Level {
-        state,
-        sets: closing.widened(ready),
     }
 }

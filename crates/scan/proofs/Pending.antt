@@ -1,7 +1,7 @@
 -- The items that a scan judges at an event: their numbers, their runs, and which of them are due or held. Assumes nothing.
 use Rattle.std.proofs.Common.{◌≡◌, ℕ, suc, ◌<◌, ◌≤◌, Bool, true, false, cond, ltb, ◌↔◌, List, [], ◌∷◌, ◌++◌, map, sym, refl, ap, ◌∙◌, subst, inl, inr, arith}
-use Rattle.std.specs.List.{AllByRecursion}
-use Rattle.std.proofs.ByRecursion.{All-weaker, All-map, All-append}
+use Rattle.std.specs.List.{All}
+use Rattle.std.proofs.lemmas.List.Elements.{All-nil, All-cons, All-weaker, All-map, All-append}
 use Rattle.std.proofs.lemmas.Bool.{ne_eqb, cases_lt}
 use Rattle.book.specs.declared.event.Event.{Event}
 use Rattle.book.specs.declared.event.Event.TheVariants.{Open, Close, End}
@@ -72,14 +72,13 @@ module _ (reach : ℕ → ℕ → Bool) (m : Selecting) (law : Lawful m.shape) (
         go over at = absurd (sound (nest_more h (Open t) ∙ ap (λ (n : Nest). after n (Open t)) at))
         go broken at = absurd (st.exact.sound at)
 
-    fresh_right : (e : Event) → Sound (plus h e) → AllByRecursion (HeldRight reach m (plus h e)) (fresh reach m s e)
-    fresh_right (Open t) sound = (
-      subst (λ (k : ℕ). HeldRight reach m (h ++ (Open t ∷ [])) (record { item = suc k; since = suc s.events; track = marked reach m t s.base })) (sym st.opens)
-          (fresh_follows t sound, ap suc st.events ∙ sym (opening_new h [] t)),
-      tt,
-    )
-    fresh_right (Close t) sound = tt
-    fresh_right End sound = tt
+    fresh_right : (e : Event) → Sound (plus h e) → All (HeldRight reach m (plus h e)) (fresh reach m s e)
+    fresh_right (Open t) sound = All-cons (HeldRight reach m (plus h (Open t))) (record { item = suc s.opened; since = suc s.events; track = marked reach m t s.base }) []
+        (subst (λ (k : ℕ). HeldRight reach m (h ++ (Open t ∷ [])) (record { item = suc k; since = suc s.events; track = marked reach m t s.base })) (sym st.opens)
+        (fresh_follows t sound, ap suc st.events ∙ sym (opening_new h [] t)))
+        (All-nil (HeldRight reach m (plus h (Open t))))
+    fresh_right (Close t) sound = All-nil (HeldRight reach m (plus h (Close t)))
+    fresh_right End sound = All-nil (HeldRight reach m (plus h End))
 
     module _ (e : Event) (sound : Sound (plus h e)) where
       -- All that are judged ---------------------------------------------------------------------------------------
@@ -109,7 +108,7 @@ module _ (reach : ℕ → ℕ → Bool) (m : Selecting) (law : Lawful m.shape) (
       pending_rising = subst (Rising 0) (sym items)
           (rising_append 0 (opened h) (map item_in s.held) (map item_in (fresh reach m s e)) (omega arith) st.held.0 (fresh_rising e) (λ i y. ((was_held i).0 y).0.1))
 
-      pub pending_right : AllByRecursion (HeldRight reach m (plus h e)) (pending reach m s e)
+      pub pending_right : All (HeldRight reach m (plus h e)) (pending reach m s e)
       pending_right = All-append (HeldRight reach m (plus h e)) (map (onward reach m.shape e) s.held) (fresh reach m s e)
           (All-map (HeldRight reach m (plus h e)) (onward reach m.shape e) s.held
           (All-weaker (λ (x : Holding). In (item_in x) (map item_in s.held) × HeldRight reach m h x) (λ (x : Holding). HeldRight reach m (plus h e) (onward reach m.shape e x))
@@ -132,7 +131,7 @@ module _ (reach : ℕ → ℕ → Bool) (m : Selecting) (law : Lawful m.shape) (
 
       all_tell : (p : Holding → Bool) (Kind : ℕ → Type 0)
           → ((x : Holding) → Decided m (plus h e) x.item (may m.shape e true x.track) (may m.shape e false x.track) → (p x ≡ true) ↔ Kind x.item)
-          → AllByRecursion (λ (x : Holding). (p x ≡ true) ↔ Kind x.item) (pending reach m s e)
+          → All (λ (x : Holding). (p x ≡ true) ↔ Kind x.item) (pending reach m s e)
       all_tell p Kind tells =
           All-weaker (λ (x : Holding). In (item_in x) (map item_in (pending reach m s e)) × HeldRight reach m (plus h e) x) (λ (x : Holding). (p x ≡ true) ↔ Kind x.item)
           (λ x r. tells x (decided x r.0 r.1)) (pending reach m s e) (all_listed (HeldRight reach m (plus h e)) (pending reach m s e) pending_right)

@@ -1,7 +1,7 @@
 -- One step of the scan over lists keeps the promise, and it stands after it. Assumes nothing.
 use Rattle.std.proofs.Common.{◌≡◌, ℕ, suc, ◌+◌, ◌<◌, ◌≤◌, Bool, cond, ltb, ◌≢◌, List, [], ◌∷◌, ◌++◌, map, length, take, drop, Ok, Err, Result, sym, refl, ap, ◌∙◌, subst, inl, inr, arith, length-append}
 use lib.ListN.{length-map}
-use Rattle.std.proofs.ByRecursion.{All-weaker, all_kept_by}
+use Rattle.std.proofs.lemmas.List.Elements.{All-nil, All-weaker, All-filter}
 use Rattle.std.proofs.lemmas.Bool.{ltb-true, lt-ltb, cases_lt}
 use Rattle.book.specs.declared.event.Event.{Event}
 use Rattle.book.specs.declared.event.Event.TheVariants.{Open, Close, End}
@@ -62,7 +62,7 @@ module _ (reach : ℕ → ℕ → Bool) (m : Selecting) (law : Lawful m.shape) (
         sym (length-map due item_in),
         λ i. notes_are (plus h e) (suc s.events) due length_now
             (All-weaker (HeldRight reach m (plus h e)) (λ (y : Holding). y.since ≡ opening y.item (plus h e)) (λ y r. r.1) due
-            (all_kept_by (is_due m.shape e) (HeldRight reach m (plus h e)) (pending reach m s e) (pending_right reach m law mark_law fits s h given st some e sound))) i
+            (All-filter (is_due m.shape e) (HeldRight reach m (plus h e)) (pending reach m s e) (pending_right reach m law mark_law fits s h given st some e sound))) i
             ++ drop (sym (length-map due item_in) i) before,
       );
       opens = ap (λ (n : ℕ). count n e) st.opens ∙ sym (opened_more h e);
@@ -88,7 +88,7 @@ module _ (reach : ℕ → ℕ → Bool) (m : Selecting) (law : Lawful m.shape) (
       ordered = step_shown.ordered ∙ sym (orders_so_far (JustDue m h e) (plus h e) given x a.orders step_shown.orders);
       base = run_follows reach m.shape law some h e s.base (plainly m.shape) sound (λ q t. refl) st.base;
       held = held_lists reach m law mark_law fits s h given st some e sound;
-      each = all_kept_by (is_held m.shape e) (HeldRight reach m (plus h e)) (pending reach m s e) (pending_right reach m law mark_law fits s h given st some e sound);
+      each = All-filter (is_held m.shape e) (HeldRight reach m (plus h e)) (pending reach m s e) (pending_right reach m law mark_law fits s h given st some e sound);
     }
 
   -- The checks ----------------------------------------------------------------------------------------------------
@@ -171,7 +171,7 @@ begins_right reach m = record {
   ordered = refl;
   base = first_follows reach m.shape;
   held = (tt, λ i. (λ y. absurd y, λ z. let a = z.0.0 in let b = z.0.1 in absurd (omega arith)));
-  each = tt;
+  each = All-nil (HeldRight reach m []);
 }
 
 -- whatever has the answer, the list and the state of the scan over lists keeps the promise

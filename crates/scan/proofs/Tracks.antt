@@ -11,7 +11,7 @@ use Rattle.book.proofs.Ranges.{back_below}
 use Rattle.book.proofs.Steps.{nest_more, run_more, run_opened}
 use Rattle.scan.specs.Tracks.{Level, Track, level, track, answers, widened, first, entered, left, moved, state_of, Cached, Layered, Follows}
 
-some_below_alike : (n : ℕ) (p p' : ℕ → Bool) → ((k : ℕ) → k < n → p k ≡ p' k) → some_below n p ≡ some_below n p'
+pub some_below_alike : (n : ℕ) (p p' : ℕ → Bool) → ((k : ℕ) → k < n → p k ≡ p' k) → some_below n p ≡ some_below n p'
 some_below_alike zero p p' same = refl
 some_below_alike (suc n) p p' same =
     ap (λ (b : Bool). b || some_below n p) (same n (omega arith)) ∙ ap (λ (b : Bool). p' n || b) (some_below_alike n p p' (λ k lt. same k (omega arith)))

@@ -1,5 +1,5 @@
 -- A scan over lists: the base run, and one run for each held item.
-use Rattle.std.specs.Prelude.{ℕ, suc, ◌+◌, ◌-◌, Bool, true, false, not, ◌&&◌, ltb, List, [], ◌∷◌, ◌++◌, map, length, drop, Ok, Err, filter, Result, nat_lt}
+use Rattle.std.specs.Prelude.{ℕ, suc, ◌+◌, ◌-◌, Bool, true, false, not, ◌&&◌, List, [], ◌∷◌, ◌++◌, map, length, drop, Ok, Err, filter, Result, nat_lt}
 use Rattle.book.specs.declared.event.Event.{Event}
 use Rattle.book.specs.declared.event.Event.TheVariants.{Open, Close, End}
 use Rattle.book.specs.declared.answer.Order.{Order}
@@ -81,7 +81,7 @@ test reach m s room e ShortList = nat_lt room least_room
 test reach m s room e BadTag = shared_test m.shape.width s.place s.opened e BadTag
 test reach m s room e TooDeep = shared_test m.shape.width s.place s.opened e TooDeep
 test reach m s room e TooMany = shared_test m.shape.width s.place s.opened e TooMany
-test reach m s room e HoldFull = on_open (λ t. ltb most_held (length (held_at reach m s e))) e
+test reach m s room e HoldFull = on_open (λ t. nat_lt most_held (length (held_at reach m s e))) e
 test reach m s room e NoneOpen = shared_test m.shape.width s.place s.opened e NoneOpen
 test reach m s room e OtherTag = shared_test m.shape.width s.place s.opened e OtherTag
 test reach m s room e StillOpen = shared_test m.shape.width s.place s.opened e StillOpen

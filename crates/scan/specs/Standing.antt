@@ -1,6 +1,6 @@
 -- When a scan over lists stands for the events so far and the orders given, and what its step owes.
 use Rattle.std.specs.Prelude.{◌≡◌, ℕ, Bool, List, [], map, length, Result}
-use Rattle.std.specs.List.{AllByRecursion}
+use Rattle.std.specs.List.{All}
 use Rattle.book.specs.declared.event.Event.{Event}
 use Rattle.book.specs.declared.answer.Order.{Order}
 use Rattle.book.specs.declared.answer.Totals.{Totals}
@@ -35,7 +35,7 @@ pub record Stands (reach : ℕ → ℕ → Bool) (m : Selecting) (s : Model) (h 
   pub ordered : s.ordered ≡ length given
   pub base : Follows reach m.shape (nest h) s.base (run m.shape (plainly m.shape) h)
   pub held : Lists (Held m h) (map item_in s.held)
-  pub each : AllByRecursion (HeldRight reach m h) s.held
+  pub each : All (HeldRight reach m h) s.held
 
 -- Statements ------------------------------------------------------------------------------------------------------
 

@@ -6,42 +6,30 @@ ghost use Rattle.scan.specs.Runs.{ScanRunsRight, WatchRunsRight};
 // The scan ------------------------------------------------------------------------------------------------------
 
 // Before any event it stands for no events and no orders.
-pub fn begins_right_stands() -> u8
+pub fn begins_right_stands()
     ensures { BeginsRight }
-{
-    0
-}
+{}
 
 // Each call of it keeps the promise, and it stands after the call.
-pub fn steps_right_stands() -> u8
+pub fn steps_right_stands()
     ensures { StepsRight }
-{
-    0
-}
+{}
 
 // Any calls since its beginning keep the promise, and no other answers to them do.
-pub fn scan_runs_right_stands() -> u8
+pub fn scan_runs_right_stands()
     ensures { ScanRunsRight }
-{
-    0
-}
+{}
 
 // The watch -----------------------------------------------------------------------------------------------------
 
-pub fn watch_begins_right_stands() -> u8
+pub fn watch_begins_right_stands()
     ensures { WatchBeginsRight }
-{
-    0
-}
+{}
 
-pub fn watch_steps_right_stands() -> u8
+pub fn watch_steps_right_stands()
     ensures { WatchStepsRight }
-{
-    0
-}
+{}
 
-pub fn watch_runs_right_stands() -> u8
+pub fn watch_runs_right_stands()
     ensures { WatchRunsRight }
-{
-    0
-}
+{}

@@ -1,15 +1,21 @@
 -- An accepted call, on the scan over lists that a scan stands for, before it and after it. Assumes nothing.
-use Rattle.std.proofs.Common.{◌≡◌, ℕ, suc, ◌+◌, ◌-◌, Bool, List, ◌++◌, map, length, drop, Ok, filter, sym, ap, ◌∙◌}
+use Rattle.std.proofs.Common.{◌≡◌, ℕ, suc, ◌+◌, ◌-◌, Bool, List, [], ◌++◌, map, length, drop, Ok, Result, filter, sym, ap, ◌∙◌, subst}
 use Rattle.book.specs.declared.event.Event.{Event}
 use Rattle.book.specs.declared.answer.Order.{Order}
 use Rattle.book.specs.declared.answer.Totals.{Totals}
 use Rattle.book.specs.Catalogue.{after, count}
 use Rattle.book.specs.Checks.{scan_lines}
-use Rattle.book.specs.Machines.{Selecting}
+use Rattle.book.specs.declared.answer.Refusal.{Refusal}
+use Rattle.book.specs.Machines.{Selecting, Lawful, LawfulMarks}
+use Rattle.ready.proofs.Existence.{ready_fits}
 use Rattle.scan.specs.Tests.{checked}
 use Rattle.scan.specs.Tracks.{moved}
-use Rattle.scan.specs.Model.{Holding, Model, pending, is_due, is_held, due_at, held_at, next, test, totals, answer, note, list_after}
+use Rattle.scan.specs.Model.{Holding, Model, begun, pending, is_due, is_held, due_at, held_at, next, test, totals, answer, note, list_after}
+use Rattle.scan.specs.Standing.{Stands}
+use Rattle.scan.proofs.Standing.{begins_right, step_kept}
+use Rattle.scan_calls.specs.declared.scanning.Scan.{Scan}
 use Rattle.scan_calls.specs.Rows.{Settled}
+use Rattle.scan_calls.specs.Scans.{model_of, meaning_of, table_of, Stepped, Called}
 use Rattle.scan_calls.proofs.Lines.{ok_is}
 
 -- the items judged are those that the event leaves pending, and what is counted is counted on
@@ -40,3 +46,16 @@ module _ (reach : ℕ → ℕ → Bool) (m : Selecting) (e : Event) (old new : M
     list_is = settled.list
         ∙ (λ i. map (note (number i)) (filter (is_due m.shape e) (judged i)) ++ drop sent before)
         ∙ ap (λ (k : ℕ). map (note (suc old.events)) (due_at reach m old e) ++ drop k before) (sym (ap (λ (x : Totals). x.orders) is))
+
+-- What the scan over lists does keeps the promise ----------------------------------------------------------------
+
+pub begun_stands : (reach : ℕ → ℕ → Bool) (m : Selecting) (s : Model) → s ≡ begun reach m.shape → Stands reach m s [] []
+begun_stands reach m s is = subst (λ (x : Model). Stands reach m x [] []) (sym is) (begins_right reach m)
+
+pub called : {B : Type 0} {selects : _} {book : _} (call e : Event) → call ≡ e → (s s' : Scan B selects book) (before later : List Order) (a : Result Totals Refusal)
+    → Lawful (meaning_of s).shape → LawfulMarks (meaning_of s).shape (meaning_of s).mark → Stepped e s s' before later a → Called call s s' before later a
+called call e is s s' before later a law marks step = subst (λ (f : Event). Called f s s' before later a) (sym is) (record {
+  stepped = step;
+  kept = step_kept (table_of s) (meaning_of s) (model_of s) (model_of s') e before later a step.answer step.list step.model law marks
+      (ready_fits (meaning_of s).shape law (table_of s) s.ready.leads);
+})

@@ -1,13 +1,9 @@
 -- Lists filled with what passes a test. Assumes nothing.
 use Rattle.std.proofs.Common.{◌≡◌, ℕ, ◌+◌, ◌<◌, ◌≤◌, Bool, true, false, cond, not, ◌&&◌, List, [], ◌∷◌, ◌++◌, map, length, get_or, take, drop, set, filter, sym, refl, ap, ◌∙◌, append_assoc, append-nil, arith, length-append}
 use lib.ListN.{length-map}
-use Rattle.std.proofs.lemmas.List.{drop_more, take_all, set_at}
+use Rattle.std.proofs.lemmas.List.{map-append, drop_more, take_all, set_at}
 use Rattle.std.proofs.lemmas.List.Elements.{filter_more}
 use Rattle.std.proofs.lemmas.Bool.{both_ways}
-
-map_app : {X Y : Type 0} (f : X → Y) (xs ys : List X) → map f (xs ++ ys) ≡ map f xs ++ map f ys
-map_app f [] ys = refl
-map_app f (x ∷ xs) ys = ap (λ r. f x ∷ r) (map_app f xs ys)
 
 module _ {X : Type 0} (p : X → Bool) (xs : List X) (i : ℕ) (d : X) (lt : i < length xs) where
   pub kept_yes : p (get_or xs i d) ≡ true → filter p (take (i + 1) xs) ≡ filter p (take i xs) ++ get_or xs i d ∷ []
@@ -40,7 +36,7 @@ module _ {X Y : Type 0} (f : X → Y) (p : X → Bool) (xs : List X) (os ys : Li
         count = ap (λ k. k + 1) h.count ∙ sym (ap length grown ∙ length-append ws (x ∷ []));
         rows = ap (set ys n) is ∙ ap (λ zs. set zs n (f x)) (h.rows ∙ ap (λ r. map f ws ++ r) (drop_more os n e room))
             ∙ set_at (map f ws) (get_or os n e) (drop (n + 1) os) (f x) n (length-map ws f ∙ sym h.count)
-            ∙ sym (ap (λ zs. map f zs ++ drop (n + 1) os) grown ∙ ap (λ r. r ++ drop (n + 1) os) (map_app f ws (x ∷ [])) ∙ append_assoc (map f ws) (f x ∷ []) (drop (n + 1) os));
+            ∙ sym (ap (λ zs. map f zs ++ drop (n + 1) os) grown ∙ ap (λ r. r ++ drop (n + 1) os) (map-append f ws (x ∷ [])) ∙ append_assoc (map f ws) (f x ∷ []) (drop (n + 1) os));
       }
 
 pub filled_end : {X Y : Type 0} (f : X → Y) (p : X → Bool) (xs : List X) (os ys : List Y) (i n : ℕ) → Filled f p xs os ys i n → length xs ≤ i → (n ≡ length (filter p xs)) × (ys ≡ map f (filter p xs) ++ drop n os)

@@ -1,13 +1,16 @@
 -- The checks of a call, line by line. Assumes nothing.
 use Rattle.std.proofs.Common.{◌≡◌, ℕ, zero, suc, ◌-◌, ◌<◌, ◌≤◌, Bool, true, false, cond, not, eqb, leb, ◌≢◌, List, [], ◌∷◌, ◌++◌, length, get_or, set, Ok, Err, Result, sym, refl, ap, ◌∙◌, arith, get_or-set_other}
 use Rattle.std.proofs.lemmas.Bool.{le-leb, lt-leb, eqb-true, not-false, both_ways}
+use Rattle.book.specs.declared.event.Event.{Event}
 use Rattle.book.specs.declared.answer.Refusal.{Refusal}
 use Rattle.book.specs.declared.answer.Refusal.TheVariants.{BadTag, TooDeep, TooMany, HoldFull, NoneOpen, OtherTag, StillOpen}
 use Rattle.book.specs.Limits.{most_open}
 use Rattle.book.specs.Catalogue.{within}
 use Rattle.book.specs.Checks.{scan_lines}
 use Rattle.scan.specs.Tests.{is_over, is_bare, is_open, is_other, open_tags, checked}
-use Rattle.scan_calls.specs.Scans.{stack, place_of, first_lines}
+use Rattle.scan.specs.Model.{test}
+use Rattle.scan_calls.specs.declared.scanning.Scan.{Scan}
+use Rattle.scan_calls.specs.Scans.{stack, place_of, model_of, meaning_of, table_of, first_lines}
 
 -- Lines in general ------------------------------------------------------------------------------------------------
 
@@ -149,3 +152,18 @@ module _ (ended : Bool) (tags : List ℕ) (d : ℕ) (on : ended ≡ false) where
 
   pub top_is : (t : ℕ) → 1 ≤ d → is_other t (open_tags (place_of ended (stack tags d))) ≡ false → get_or tags (d - 1) 0 ≡ t
   top_is t some f = eqb-true (get_or tags (d - 1) 0) t (not-false (eqb (get_or tags (d - 1) 0) t) (sym (other_is t some) ∙ f))
+
+-- the lines of a scan's call: one of the first gives the answer; or none of them is met, the scan goes on, and the others give it
+module _ {B : Type 0} {selects : _} {book : _} (s : Scan B selects book) (room : ℕ) (e : Event) where
+  abbrev lines : Refusal → Bool
+  lines = test (table_of s) (meaning_of s) (model_of s) room e
+
+  pub among_first : (l : Refusal) → Err l ≡ checked lines first_lines (tt {0}) → Err l ≡ checked lines scan_lines (tt {0})
+  among_first l is = at_first lines l is
+
+  module _ (first : Ok (tt {0}) ≡ checked lines first_lines (tt {0})) where
+    pub goes_on : s.ended ≡ false
+    goes_on = going s.ended _ (clear lines first_lines tt first).1.0
+
+    pub behind_first : (v : Result (Unit {0}) Refusal) → v ≡ checked lines rest_lines (tt {0}) → v ≡ checked lines scan_lines (tt {0})
+    behind_first v is = after_first lines v first is

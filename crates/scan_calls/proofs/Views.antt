@@ -1,8 +1,9 @@
 -- The runs that rows of cells stand for, as an item opens or closes. Assumes nothing.
-use Rattle.std.proofs.Common.{◌≡◌, ℕ, zero, suc, ◌+◌, ◌-◌, ◌<◌, ◌≤◌, Bool, true, false, cond, ◌≢◌, List, [], ◌∷◌, ◌++◌, map, length, get_or, take, drop, set, filter, sym, refl, ap, ◌∙◌, subst, arith, length-append, length-drop, length-take, get_or-set_other, get_or-set_same}
+use Rattle.std.proofs.Common.{◌≡◌, ℕ, zero, suc, ◌+◌, ◌-◌, ◌<◌, ◌≤◌, Bool, true, false, cond, ◌≢◌, List, [], ◌∷◌, ◌++◌, map, length, get_or, take, drop, filter, sym, refl, ap, ◌∙◌, subst, arith, length-append, length-drop, length-take}
 use lib.ListN.{length-map}
 use Rattle.std.proofs.lemmas.List.Elements.{filter-append}
-use Rattle.std.proofs.lemmas.List.{take_more, drop-map}
+use Rattle.std.proofs.lemmas.List.{take_more, drop-map, map-append}
+use Rattle.std.proofs.lemmas.Simd.{map-map}
 use Rattle.std.proofs.lemmas.List.Sums.{length-filter, count_by-le-length}
 use Rattle.book.specs.declared.event.Event.{Event}
 use Rattle.book.specs.declared.event.Event.TheVariants.{Open, Close, End}
@@ -12,7 +13,8 @@ use Rattle.scan.specs.Tracks.{Level, track, entered, left, moved}
 use Rattle.scan.specs.Model.{Holding, onward, is_due, is_held, note}
 use Rattle.cells.specs.declared.cell.Cell.{Cell}
 use Rattle.cells.specs.Cells.{Seen, seen, cell_at, entered_seen, left_seen, beside_seen}
-use Rattle.scan_calls.specs.Rows.{Only, around, holding, held_in, base_view, held_view, holding_new, held_child, cell_due, cell_held, cell_note, Settled}
+use Rattle.scan_calls.specs.declared.scanning.Rows.{Rows}
+use Rattle.scan_calls.specs.Rows.{Only, around, holding, held_in, base_view, held_view, row_of, item_cells, base_of, held_of, holding_new, held_child, cell_due, cell_held, cell_note, Settled}
 
 -- Lists of cells --------------------------------------------------------------------------------------------------
 
@@ -39,14 +41,6 @@ map_like : {X Y : Type 0} (f g : X → Y) → ((x : X) → f x ≡ g x) → (xs 
 map_like f g same [] = refl
 map_like f g same (x ∷ xs) = λ i. same x i ∷ map_like f g same xs i
 
-map_map : {X Y Z : Type 0} (f : X → Y) (g : Y → Z) (xs : List X) → map (λ x. g (f x)) xs ≡ map g (map f xs)
-map_map f g [] = refl
-map_map f g (x ∷ xs) = ap (λ r. g (f x) ∷ r) (map_map f g xs)
-
-map_app : {X Y : Type 0} (f : X → Y) (xs ys : List X) → map f (xs ++ ys) ≡ map f xs ++ map f ys
-map_app f [] ys = refl
-map_app f (x ∷ xs) ys = ap (λ r. f x ∷ r) (map_app f xs ys)
-
 -- one cell more behind the first
 rest_more : {X : Type 0} (f : Cell → X) (n : ℕ) (ys : List Cell) → 1 ≤ n → n < length ys → map f (drop 1 (take (n + 1) ys)) ≡ map f (drop 1 (take n ys)) ++ (f (cell_at ys n) ∷ [])
 rest_more f n [] some lt = absurd (omega arith)
@@ -55,7 +49,7 @@ rest_more f (suc n) (y ∷ ys) some lt =
     let up : suc n + 1 ≡ suc (n + 1) = omega arith in
     ap (λ (k : ℕ). map f (drop 1 (take k (y ∷ ys)))) up
     ∙ ap (map f) (take_more ys n _ (omega arith))
-    ∙ map_app f (take n ys) (cell_at ys n ∷ [])
+    ∙ map-append f (take n ys) (cell_at ys n ∷ [])
 
 -- a filter of cells is a filter of the items that they stand for
 pub kept_map : {X : Type 0} (g : Cell → X) (p : Cell → Bool) (q : X → Bool) → ((c : Cell) → p c ≡ q (g c)) → (cs : List Cell) → map g (filter p cs) ≡ filter q (map g cs)
@@ -132,7 +126,7 @@ module _ (reach : ℕ → ℕ → Bool) (m : Machine) (t : ℕ) (rows later : Li
         ∙ (λ i. rest_like (held_in later (suc d)) (λ c. onward reach m (Open t) (held_in rows d c)) n cells (get_or later (suc d) []) long (omega arith)
         (λ k lt. child only k (seen (cell_at (get_or later (suc d) []) k)) (each k lt)) i
         ++ (fresh_child only item since q (seen (cell_at (get_or later (suc d) []) n)) new i ∷ []))
-        ∙ ap (λ (r : List Holding). r ++ (holding_new item since (entered reach m t q (base_view rows d)) ∷ [])) (map_map (held_in rows d) (onward reach m (Open t)) (drop 1 (take n cells))),
+        ∙ ap (λ (r : List Holding). r ++ (holding_new item since (entered reach m t q (base_view rows d)) ∷ [])) (sym (map-map (onward reach m (Open t)) (held_in rows d) (drop 1 (take n cells)))),
   )
 
   pub opens : (n item since q : ℕ) → 1 ≤ n → n ≤ length cells → Opens n item since q (d + 1)
@@ -150,7 +144,7 @@ held_count reach m t rows d n h =
     old : length (filter (is_held m (Open t)) (map (onward reach m (Open t)) (held_view rows d n))) ≡ length (filter (held_child reach m t) (drop 1 (take n (get_or rows d []))))
     old = let cs : List Cell = drop 1 (take n (get_or rows d [])) in
         let g : Cell → Holding = (λ c. onward reach m (Open t) (held_in rows d c)) in
-        ap (λ (hs : List Holding). length (filter (is_held m (Open t)) hs)) (sym (map_map (held_in rows d) (onward reach m (Open t)) cs))
+        ap (λ (hs : List Holding). length (filter (is_held m (Open t)) hs)) (map-map (onward reach m (Open t)) (held_in rows d) cs)
         ∙ ap length (sym (kept_map g (held_child reach m t) (is_held m (Open t)) (λ c. refl) cs))
         ∙ length-map (filter (held_child reach m t) cs) g
 
@@ -198,65 +192,69 @@ settled m e event rows d cs kept items stay before later sent left are view coun
       cells = ap length view ∙ length-map kept (held_in rows d) ∙ count;
     }
 
--- in their own row, which is then last
-module _ (m : Machine) (e : Event) (event : ℕ) (rows : List (List Cell)) (d : ℕ) (last : List Cell) (lt : d < length rows) where
-  abbrev put : List (List Cell)
-  put = set rows d last
+-- in the row of level d, which alone has changed
+pub settled_at : (m : Machine) (call : Event) (event : ℕ) (rows later : List (List Cell)) (d e : ℕ) → e ≤ d → Only d rows later → (cs kept : List Cell) (before orders : List Order) (sent left : ℕ)
+    → length kept ≡ left - 1 → sent ≡ length (filter (cell_due m call) cs) → kept ≡ filter (cell_held m call) cs → orders ≡ map (cell_note event) (filter (cell_due m call) cs) ++ drop sent before
+    → Settled m call event (map (held_in rows e) cs) before orders sent (map (held_in later e) kept) left
+settled_at m call event rows later d e le only cs kept before orders sent left count s k f =
+    settled m call event rows e cs kept (map (held_in rows e) cs) (map (held_in later e) kept) before orders sent left refl
+    (map_like (held_in later e) (held_in rows e) (λ c. holding_same rows later e (below_only rows later d e le only) (seen c)) kept) count s k f
 
-  same_below : (j : ℕ) → j < d → get_or put j [] ≡ get_or rows j []
-  same_below j less = get_or-set_other rows d j last [] (let z : j ≢ d = omega arith in z)
+-- where the rows stand
+module _ (old new : Rows) (same : new.depth ≡ old.depth) where
+  pub settled_here : (m : Machine) (call : Event) (event : ℕ) (before orders : List Order) (sent : ℕ)
+      → ((e : ℕ) → e ≤ old.depth → Settled m call event (map (held_in old.cells e) (item_cells old)) before orders sent (map (held_in new.cells e) (item_cells new)) new.count)
+      → Settled m call event (held_of old) before orders sent (held_of new) new.count
+  settled_here m call event before orders sent settles =
+      subst (λ (e : ℕ). Settled m call event (map (held_in old.cells e) (item_cells old)) before orders sent (held_of new) new.count) same (settles new.depth (omega arith))
 
-  pub settled_base : cell_at last 0 ≡ cell_at (get_or rows d []) 0 → base_view put d ≡ base_view rows d
-  settled_base is =
-      ap (λ (r : List Cell). (held_in put d (cell_at r 0)).track) (get_or-set_same rows d last [] lt)
-      ∙ ap (λ (x : Cell). (held_in put d x).track) is
-      ∙ ap (λ (x : Holding). x.track) (holding_same rows put d same_below (seen (cell_at (get_or rows d []) 0)))
-
-  pub settled_level : (n sent left : ℕ) (before later : List Order) → length (drop 1 (take left last)) ≡ left - 1
-      → sent ≡ length (filter (cell_due m e) (drop 1 (take n (get_or rows d [])))) → drop 1 (take left last) ≡ filter (cell_held m e) (drop 1 (take n (get_or rows d [])))
-      → later ≡ map (cell_note event) (filter (cell_due m e) (drop 1 (take n (get_or rows d [])))) ++ drop sent before
-      → Settled m e event (held_view rows d n) before later sent (held_view put d left) left
-  settled_level n sent left before later count s k f =
-      settled m e event rows d (drop 1 (take n (get_or rows d []))) (drop 1 (take left last)) (held_view rows d n) (held_view put d left) before later sent left refl
-      (ap (λ (r : List Cell). map (held_in put d) (drop 1 (take left r))) (get_or-set_same rows d last [] lt) ∙ map_like (held_in put d) (held_in rows d) (λ c. holding_same rows put d same_below (seen c)) (drop 1 (take left last)))
-      count s k f
+  pub settled_base : Only old.depth old.cells new.cells → cell_at (row_of new) 0 ≡ cell_at (row_of old) 0 → base_of new ≡ base_of old
+  settled_base only is =
+      ap (λ (c : Cell). (held_in new.cells new.depth c).track) is
+      ∙ ap (λ (e : ℕ). (held_in new.cells e (cell_at (row_of old) 0)).track) same
+      ∙ ap (λ (x : Holding). x.track) (holding_same old.cells new.cells old.depth (below_only old.cells new.cells old.depth old.depth (omega arith) only) (seen (cell_at (row_of old) 0)))
 
 -- An item closes --------------------------------------------------------------------------------------------------
 
--- Level d + 1 is left: row is what its cells become, last the row with those kept in front, and then level d has these.
-module _ (reach : ℕ → ℕ → Bool) (m : Machine) (t event : ℕ) (rows : List (List Cell)) (d : ℕ) (row last : List Cell) (later : List (List Cell)) where
-  behind : (k : ℕ) (s : Seen) → s ≡ left_seen m t (get_or rows d []) (seen (cell_at (get_or rows (suc d) []) k)) → holding rows d s ≡ onward reach m (Close t) (held_in rows (suc d) (cell_at (get_or rows (suc d) []) k))
-  behind k s is = ap (holding rows d) is
+-- The runs of level d + 1 leave their item, in the row of that level; the items are judged there; and then the cells kept
+-- become those of level d.
+module _ (reach : ℕ → ℕ → Bool) (m : Machine) (t : ℕ) (old left judged later : Rows) (d : ℕ) (up : old.depth ≡ suc d) (down : later.depth ≡ d)
+    (at : left.depth ≡ old.depth) (still : judged.depth ≡ left.depth) (all : left.count ≡ old.count) (kept : later.count ≡ judged.count)
+    (left_only : Only old.depth old.cells left.cells) (judged_only : Only left.depth left.cells judged.cells) (later_only : Only d judged.cells later.cells)
+    (left_cells : (k : ℕ) → k < old.count → seen (cell_at (row_of left) k) ≡ left_seen m t (get_or old.cells d []) (seen (cell_at (row_of old) k)))
+    (lowered : (k : ℕ) → k < judged.count → cell_at (row_of later) k ≡ cell_at (row_of judged) k) where
+  behind : (s c : Seen) → s ≡ left_seen m t (get_or old.cells d []) c → holding left.cells d s ≡ onward reach m (Close t) (holding old.cells old.depth c)
+  behind s c is =
+      ap (holding left.cells d) is
+      ∙ holding_same old.cells left.cells d (below_only old.cells left.cells old.depth d (omega arith) left_only) (left_seen m t (get_or old.cells d []) c)
+      ∙ ap (λ (e : ℕ). onward reach m (Close t) (holding old.cells e c)) (sym up)
 
-  -- level e is the one that is left
-  abbrev Closes : ℕ → ℕ → ℕ → List Order → List Order → ℕ → Type 0
-  Closes n sent left before orders e = n ≤ length (get_or rows e [])
-      → ((k : ℕ) → k < n → seen (cell_at row k) ≡ left_seen m t (get_or rows d []) (seen (cell_at (get_or rows e []) k)))
-      → (base_view later d ≡ moved reach m (Close t) (base_view rows e))
-      × Settled m (Close t) event (map (onward reach m (Close t)) (held_view rows e n)) before orders sent (held_view later d left) left
+  below : (s : Seen) → holding later.cells d s ≡ holding judged.cells d s
+  below s = holding_same judged.cells later.cells d (below_only judged.cells later.cells d d (omega arith) later_only) s
 
-  closes_at : (n sent left : ℕ) (before orders : List Order) → 1 ≤ n → n ≤ length row → 1 ≤ left → left ≤ length last → left ≤ length (get_or later d []) → ((j : ℕ) → j < d → get_or later j [] ≡ get_or rows j [])
-      → ((k : ℕ) → k < left → cell_at (get_or later d []) k ≡ cell_at last k) → cell_at last 0 ≡ cell_at row 0 → length (drop 1 (take left last)) ≡ left - 1
-      → sent ≡ length (filter (cell_due m (Close t)) (drop 1 (take n row))) → drop 1 (take left last) ≡ filter (cell_held m (Close t)) (drop 1 (take n row))
-      → orders ≡ map (cell_note event) (filter (cell_due m (Close t)) (drop 1 (take n row))) ++ drop sent before
-      → Closes n sent left before orders (suc d)
-  closes_at n sent left before orders some wide one room here below lowered base count s k f long each = (
-    ap (λ (c : Cell). (held_in later d c).track) (lowered 0 (omega arith) ∙ base)
-        ∙ ap (λ (x : Holding). x.track) (holding_same rows later d below (seen (cell_at row 0)))
-        ∙ ap (λ (x : Holding). x.track) (behind 0 (seen (cell_at row 0)) (each 0 (omega arith))),
-    settled m (Close t) event rows d (drop 1 (take n row)) (drop 1 (take left last)) (map (onward reach m (Close t)) (held_view rows (suc d) n)) (held_view later d left) before orders sent left
-        (rest_like (held_in rows d) (λ c. onward reach m (Close t) (held_in rows (suc d) c)) n (get_or rows (suc d) []) row long wide (λ j lt. behind j (seen (cell_at row j)) (each j lt))
-        ∙ map_map (held_in rows (suc d)) (onward reach m (Close t)) (drop 1 (take n (get_or rows (suc d) []))))
-        (ap (λ (r : List Cell). map (held_in later d) (drop 1 r)) (take_like left last (get_or later d []) room here lowered)
-        ∙ map_like (held_in later d) (held_in rows d) (λ c. holding_same rows later d below (seen c)) (drop 1 (take left last)))
-        count s k f,
-  )
+  before : (s : Seen) → holding judged.cells d s ≡ holding left.cells d s
+  before s = holding_same left.cells judged.cells d (below_only left.cells judged.cells left.depth d (omega arith) judged_only) s
 
-  pub closes : (n sent left : ℕ) (before orders : List Order) → 1 ≤ n → n ≤ length row → 1 ≤ left → left ≤ length last → left ≤ length (get_or later d []) → ((j : ℕ) → j < d → get_or later j [] ≡ get_or rows j [])
-      → ((k : ℕ) → k < left → cell_at (get_or later d []) k ≡ cell_at last k) → cell_at last 0 ≡ cell_at row 0 → length (drop 1 (take left last)) ≡ left - 1
-      → sent ≡ length (filter (cell_due m (Close t)) (drop 1 (take n row))) → drop 1 (take left last) ≡ filter (cell_held m (Close t)) (drop 1 (take n row))
-      → orders ≡ map (cell_note event) (filter (cell_due m (Close t)) (drop 1 (take n row))) ++ drop sent before
-      → Closes n sent left before orders (d + 1)
-  closes n sent left before orders some wide one room here below lowered base count s k f =
-      let up : suc d ≡ d + 1 = omega arith in
-      subst (Closes n sent left before orders) up (closes_at n sent left before orders some wide one room here below lowered base count s k f)
+  pub closed_base : 1 ≤ old.count → 1 ≤ judged.count → cell_at (row_of judged) 0 ≡ cell_at (row_of left) 0 → base_of later ≡ moved reach m (Close t) (base_of old)
+  closed_base some one is =
+      ap (λ (e : ℕ). (held_in later.cells e (cell_at (row_of later) 0)).track) down
+      ∙ ap (λ (c : Cell). (held_in later.cells d c).track) (lowered 0 (omega arith) ∙ is)
+      ∙ ap (λ (x : Holding). x.track) (below (seen (cell_at (row_of left) 0)) ∙ before (seen (cell_at (row_of left) 0)) ∙ behind (seen (cell_at (row_of left) 0)) (seen (cell_at (row_of old) 0)) (left_cells 0 (omega arith)))
+
+  pub closed_settled : (event : ℕ) (before orders : List Order) (sent : ℕ) → old.count ≤ length (row_of old) → old.count ≤ length (row_of left) → judged.count ≤ length (row_of judged) → judged.count ≤ length (row_of later)
+      → ((e : ℕ) → e ≤ left.depth → Settled m (Close t) event (map (held_in left.cells e) (item_cells left)) before orders sent (map (held_in judged.cells e) (item_cells judged)) judged.count)
+      → Settled m (Close t) event (map (onward reach m (Close t)) (held_of old)) before orders sent (held_of later) later.count
+  closed_settled event orders_before orders sent long wide room here settles =
+      let items : map (held_in left.cells d) (item_cells left) ≡ map (onward reach m (Close t)) (held_of old) =
+      ap (λ (n : ℕ). map (held_in left.cells d) (drop 1 (take n (row_of left)))) all
+      ∙ rest_like (held_in left.cells d) (λ c. onward reach m (Close t) (held_in old.cells old.depth c)) old.count (row_of old) (row_of left) long wide
+      (λ k lt. behind (seen (cell_at (row_of left) k)) (seen (cell_at (row_of old) k)) (left_cells k lt))
+      ∙ sym (map-map (onward reach m (Close t)) (held_in old.cells old.depth) (item_cells old)) in
+      let stay : map (held_in judged.cells d) (item_cells judged) ≡ held_of later =
+      map_like (held_in judged.cells d) (held_in later.cells d) (λ c. sym (below (seen c))) (item_cells judged)
+      ∙ ap (λ (cs : List Cell). map (held_in later.cells d) (drop 1 cs)) (sym (take_like judged.count (row_of judged) (row_of later) room here lowered))
+      ∙ (λ i. map (held_in later.cells (sym down i)) (drop 1 (take (sym kept i) (row_of later)))) in
+      subst (λ (hs : List Holding). Settled m (Close t) event hs orders_before orders sent (held_of later) later.count) items
+      (subst (λ (hs : List Holding). Settled m (Close t) event (map (held_in left.cells d) (item_cells left)) orders_before orders sent hs later.count) stay
+      (subst (λ (n : ℕ). Settled m (Close t) event (map (held_in left.cells d) (item_cells left)) orders_before orders sent (map (held_in judged.cells d) (item_cells judged)) n) (sym kept)
+      (settles d (omega arith))))

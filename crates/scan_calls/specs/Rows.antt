@@ -7,6 +7,7 @@ use Rattle.book.specs.Machines.{Machine}
 use Rattle.scan.specs.Tracks.{Level, Track, track}
 use Rattle.scan.specs.Model.{Holding, is_due, is_held, note}
 use Rattle.cells.specs.declared.cell.Cell.{Cell}
+use Rattle.scan_calls.specs.declared.scanning.Rows.{Rows}
 use Rattle.cells.specs.Cells.{Seen, seen, alone, cell_at, entered_seen}
 
 -- Judging ---------------------------------------------------------------------------------------------------------
@@ -45,6 +46,21 @@ base_view rows d = (held_in rows d (cell_at (slice_index_or rows d []) 0)).track
 
 abbrev pub held_view : List (List Cell) → ℕ → ℕ → List Holding
 held_view rows d n = map (held_in rows d) (drop 1 (take n (slice_index_or rows d [])))
+
+-- Where the rows stand --------------------------------------------------------------------------------------------
+
+-- the row of the current level, and its cells in use behind the first
+abbrev pub row_of : Rows → List Cell
+row_of r = slice_index_or r.cells r.depth []
+
+abbrev pub item_cells : Rows → List Cell
+item_cells r = drop 1 (take r.count (row_of r))
+
+abbrev pub base_of : Rows → Track
+base_of r = base_view r.cells r.depth
+
+abbrev pub held_of : Rows → List Holding
+held_of r = held_view r.cells r.depth r.count
 
 abbrev pub holding_new : ℕ → ℕ → Track → Holding
 holding_new item since x = record { item = item; since = since; track = x }

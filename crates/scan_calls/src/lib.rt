@@ -3,6 +3,7 @@
 
 mod calls;
 mod checks;
+mod limits;
 mod rows;
 pub mod scanning;
 mod settling;

@@ -1,15 +1,16 @@
-// The rows of a scan's cells, one for each level. The first cell of a row is the base run's, the others are those of the
-// held items, by rising item number. An event touches only the cells in use, and walks no path.
-ghost use Rattle.std.specs.Prelude.{◌≡◌, ℕ, suc, ◌+◌, ◌-◌, ◌<◌, ◌≤◌, List, [], ◌∷◌, ◌++◌, map, length, filter, slice_index_or, slice_set};
+// What an event does to the rows of a scan's cells. It touches only the cells in use, and walks no path.
+ghost use Rattle.std.specs.Prelude.{◌≡◌, ℕ, suc, ◌+◌, ◌-◌, ◌<◌, ◌≤◌, List, [], ◌∷◌, ◌++◌, map, length, filter, count_by, slice_index_or};
 ghost use Rattle.book.specs.declared.event.Event.TheVariants.{Open, Close};
 ghost use Rattle.book.specs.Machines.{selecting};
-ghost use Rattle.levels.specs.Sets.{reach_of};
-ghost use Rattle.cells.specs.Cells.{cell_at, seen, entered_seen, left_seen};
+ghost use Rattle.levels.specs.Sets.{machine_of, reach_of};
+ghost use Rattle.cells.specs.Cells.{cell_at, seen, entered_seen, left_seen, beside_seen};
 ghost use Rattle.scan.specs.Tracks.{Level, track, moved, marked};
 ghost use Rattle.scan.specs.Model.{onward, is_held};
-ghost use Rattle.scan_calls.specs.Rows.{Only, base_view, held_view, holding_new, held_child, Settled};
+ghost use Rattle.scan_calls.specs.Rows.{Only, row_of, item_cells, held_in, base_of, held_of, holding_new, held_child, Settled};
 
-use crate::settling::settle_row;
+use crate::limits::{CELLS, LEVELS};
+use crate::scanning::Rows;
+use crate::settling::{keep_held, write_orders};
 use book::answer::Order;
 use book::event::Event;
 use book::selecting_book::SelectingBook;
@@ -17,177 +18,205 @@ use book::shape_book::ShapeBook;
 use cells::{Cell, cell_at};
 use ready::ready::Ready;
 
-// The base run, 128 held items, and one item more that may come to be held.
-pub(crate) const CELLS: usize = 130;
+impl Rows {
+    // Before any event there is the base run alone.
+    pub(crate) fn begin(base: Cell) -> Rows
+        ensures depth { result.depth ≡ 0 }
+        ensures count { result.count ≡ 1 }
+        ensures base { base_of result ≡ track (seen base).level [] }
+        ensures held { held_of result ≡ [] }
+    {
+        Rows {
+            cells: [[base; CELLS]; LEVELS],
+            depth: 0,
+            count: 1,
+        }
+    }
 
-// One level outside all items, and one inside each of 64.
-pub(crate) const LEVELS: usize = 65;
+    // An item of tag `tag` opens: the runs go on in the next level, and behind them that of the item itself.
+    pub(crate) fn open<B: SelectingBook>(
+        &mut self,
+        ready: &Ready<B>,
+        item: u32,
+        since: u32,
+        tag: u8,
+    )
+        requires { (self.old.depth ≤ 63) × (self.old.count ≤ 129) }
+        ensures depth { self.new.depth ≡ self.old.depth + 1 }
+        ensures count { self.new.count ≡ self.old.count + 1 }
+        ensures base { base_of self.new ≡ moved (reach_of ready.now) (machine_of ready.now) (Open tag) (base_of self.old) }
+        ensures held { held_of self.new ≡ map (onward (reach_of ready.now) (machine_of ready.now) (Open tag)) (held_of self.old) ++ (holding_new item since (marked (reach_of ready.now) (selecting (machine_of ready.now) (B.marks ready.now.book)) tag (base_of self.old)) ∷ []) }
+    {
+        let d = self.depth;
+        let n = self.count;
+        let rows = &mut self.cells;
+        let (outer, inner) = rows.split_at_mut(d + 1);
+        open_cells(ready, &outer[d], &mut inner[0], n, item, since, tag);
+        self.depth = d + 1;
+        self.count = n + 1;
+    }
 
-// That the place is within the row is said again, and so is `wide` below: a row's length is known only where the row is lent.
-fn put(row: &mut [Cell], place: usize, cell: Cell)
-    requires { place < length row.old }
-    ensures within { place < length row.old }
-    ensures put { row.new ≡ slice_set row.old place cell }
-{
-    row[place] = cell;
-}
+    // The items in use are judged at the event: how many orders; those that are held stay in use. So it is also in a row
+    // whose cells are already those of a level further out.
+    pub(crate) fn settle<B: ShapeBook>(
+        &mut self,
+        ready: &Ready<B>,
+        call: Event,
+        event: u32,
+        orders: &mut [Order],
+    ) -> usize
+        requires { self.old.count ≤ length orders.old + 1 }
+        ensures depth { self.new.depth ≡ self.old.depth }
+        ensures total { result + self.new.count ≤ self.old.count }
+        ensures only { Only self.old.depth self.old.cells self.new.cells }
+        ensures base { cell_at (row_of self.new) 0 ≡ cell_at (row_of self.old) 0 }
+        ensures settled { (e : ℕ) → e ≤ self.old.depth → Settled (machine_of ready.now) call event (map (held_in self.old.cells e) (item_cells self.old)) orders.old orders.new result (map (held_in self.new.cells e) (item_cells self.new)) self.new.count }
+    {
+        let d = self.depth;
+        let n = self.count;
+        let rows = &mut self.cells;
+        let sent = write_orders(ready, &rows[d][1..n], call, event, orders);
+        let left = keep_held(ready, &mut rows[d][1..n], call);
+        self.count = left + 1;
+        sent
+    }
 
-// The first n runs of level d go on inside an item of tag `tag`, in level d + 1.
-fn enter_level<B: ShapeBook>(
-    ready: &Ready<B>,
-    rows: &mut [[Cell; CELLS]],
-    d: usize,
-    n: usize,
-    tag: u8,
-)
-    requires { (d + 1 < length rows.old) × (n ≤ 129) }
-    ensures wide { n ≤ length (slice_index_or rows.old d []) }
-    ensures only { Only (d + 1) rows.old rows.new }
-    ensures entered { (k : ℕ) → k < n → seen (cell_at (slice_index_or rows.new (d + 1) []) k) ≡ entered_seen (reach_of ready.now) (B.ShapeBook.machine ready.now.book) k tag (seen (cell_at (slice_index_or rows.old d []) k)) }
-{
-    for k in 0..n {
-        let cell = cell_at(&rows[d], k);
-        put(&mut rows[d + 1], k, cell.entered(ready, k as u8, tag));
+    // The innermost item, of tag `tag`, closes: the runs go on in the level around it, and are judged there.
+    pub(crate) fn close<B: ShapeBook>(
+        &mut self,
+        ready: &Ready<B>,
+        tag: u8,
+        event: u32,
+        orders: &mut [Order],
+    ) -> usize
+        requires { (1 ≤ self.old.depth) × (self.old.count ≤ length orders.old + 1) }
+        ensures depth { self.new.depth ≡ self.old.depth - 1 }
+        ensures total { result + self.new.count ≤ self.old.count }
+        ensures base { base_of self.new ≡ moved (reach_of ready.now) (machine_of ready.now) (Close tag) (base_of self.old) }
+        ensures settled { Settled (machine_of ready.now) (Close tag) event (map (onward (reach_of ready.now) (machine_of ready.now) (Close tag)) (held_of self.old)) orders.old orders.new result (held_of self.new) self.new.count }
+    {
+        self.leave(ready, tag);
+        let sent = self.settle(ready, Event::Close(tag), event, orders);
+        self.lower();
+        sent
+    }
+
+    // The runs leave their item, which has the tag `tag`. They stay in their row.
+    fn leave<B: ShapeBook>(&mut self, ready: &Ready<B>, tag: u8)
+        requires { 1 ≤ self.old.depth }
+        ensures depth { self.new.depth ≡ self.old.depth }
+        ensures count { self.new.count ≡ self.old.count }
+        ensures only { Only self.old.depth self.old.cells self.new.cells }
+        ensures wide { (self.old.count ≤ length (row_of self.old)) × (self.old.count ≤ length (row_of self.new)) }
+        ensures left { (k : ℕ) → k < self.old.count → seen (cell_at (row_of self.new) k) ≡ left_seen (machine_of ready.now) tag (slice_index_or self.old.cells (self.old.depth - 1) []) (seen (cell_at (row_of self.old) k)) }
+    {
+        let d = self.depth;
+        let n = self.count;
+        let rows = &mut self.cells;
+        let (outer, inner) = rows.split_at_mut(d);
+        leave_cells(ready, &outer[d - 1], &mut inner[0], n, tag);
+    }
+
+    // The cells in use become those of the level around.
+    fn lower(&mut self)
+        requires { 1 ≤ self.old.depth }
+        ensures depth { self.new.depth ≡ self.old.depth - 1 }
+        ensures count { self.new.count ≡ self.old.count }
+        ensures only { Only (self.old.depth - 1) self.old.cells self.new.cells }
+        ensures wide { (self.old.count ≤ length (row_of self.old)) × (self.old.count ≤ length (row_of self.new)) }
+        ensures lowered { (k : ℕ) → k < self.old.count → cell_at (row_of self.new) k ≡ cell_at (row_of self.old) k }
+    {
+        let d = self.depth;
+        let n = self.count;
+        let rows = &mut self.cells;
+        let (outer, inner) = rows.split_at_mut(d);
+        copy_cells(&inner[0][..n], &mut outer[d - 1]);
+        self.depth = d - 1;
+    }
+
+    // How many items would be held, were an item of tag `tag` opened?
+    pub(crate) fn held_inside<B: SelectingBook>(&self, ready: &Ready<B>, tag: u8) -> usize
+        ensures { (item since : ℕ) → result ≡ length (filter (is_held (machine_of ready.now) (Open tag)) (map (onward (reach_of ready.now) (machine_of ready.now) (Open tag)) (held_of self.now) ++ (holding_new item since (marked (reach_of ready.now) (selecting (machine_of ready.now) (B.marks ready.now.book)) tag (base_of self.now)) ∷ []))) }
+    {
+        let row = &self.cells[self.depth];
+        let old = count_inside(ready, &row[1..self.count], tag);
+        let base = cell_at(row, 0);
+        if holds_new(ready, &base, tag) {
+            return old + 1;
+        }
+        old
     }
 }
 
-// The first n runs of level d + 1 leave their item, which has the tag `tag`. They stay in their row.
-fn leave_level<B: ShapeBook>(
+// The runs of the first n cells go on inside an item of tag `tag`, and behind them comes that of the item itself. That the
+// cells are there is said again: how long a row is, is known only where it is lent.
+fn open_cells<B: SelectingBook>(
     ready: &Ready<B>,
-    rows: &mut [[Cell; CELLS]],
-    d: usize,
-    n: usize,
-    tag: u8,
-)
-    requires { (d + 1 < length rows.old) × (n ≤ 130) }
-    ensures wide { n ≤ length (slice_index_or rows.old (d + 1) []) }
-    ensures only { Only (d + 1) rows.old rows.new }
-    ensures left { (k : ℕ) → k < n → seen (cell_at (slice_index_or rows.new (d + 1) []) k) ≡ left_seen (B.ShapeBook.machine ready.now.book) tag (slice_index_or rows.old d []) (seen (cell_at (slice_index_or rows.old (d + 1) []) k)) }
-{
-    for k in 0..n {
-        let cell = cell_at(&rows[d + 1], k);
-        let left = cell.left(ready, &rows[d], tag);
-        put(&mut rows[d + 1], k, left);
-    }
-}
-
-// The first n cells of level d + 1 become those of level d.
-fn lower_level(rows: &mut [[Cell; CELLS]], d: usize, n: usize)
-    requires { (d + 1 < length rows.old) × (n ≤ 130) }
-    ensures wide { n ≤ length (slice_index_or rows.new d []) }
-    ensures only { Only d rows.old rows.new }
-    ensures lowered { (k : ℕ) → k < n → cell_at (slice_index_or rows.new d []) k ≡ cell_at (slice_index_or rows.old (d + 1) []) k }
-{
-    for k in 0..n {
-        let cell = cell_at(&rows[d + 1], k);
-        put(&mut rows[d], k, cell);
-    }
-}
-
-// An item of tag `tag` opens at level d: the first n runs go on in level d + 1, and behind them that of the item itself.
-pub(crate) fn open_level<B: SelectingBook>(
-    ready: &Ready<B>,
-    rows: &mut [[Cell; CELLS]],
-    d: usize,
+    around: &[Cell],
+    inside: &mut [Cell],
     n: usize,
     item: u32,
     since: u32,
     tag: u8,
 )
-    requires { (d + 1 < length rows.old) × (1 ≤ n) × (n ≤ 129) }
-    ensures base { base_view rows.new (d + 1) ≡ moved (reach_of ready.now) (B.ShapeBook.machine ready.now.book) (Open tag) (base_view rows.old d) }
-    ensures held { held_view rows.new (d + 1) (n + 1) ≡ map (onward (reach_of ready.now) (B.ShapeBook.machine ready.now.book) (Open tag)) (held_view rows.old d n) ++ (holding_new item since (marked (reach_of ready.now) (selecting (B.ShapeBook.machine ready.now.book) (B.SelectingBook.marks ready.now.book)) tag (base_view rows.old d)) ∷ []) }
+    requires { (1 ≤ n) × (n ≤ 129) × (n ≤ length around.now) × (n < length inside.old) }
+    ensures wide { n ≤ length around.now }
+    ensures entered { (k : ℕ) → k < n → seen (cell_at inside.new k) ≡ entered_seen (reach_of ready.now) (machine_of ready.now) k tag (seen (cell_at around.now k)) }
+    ensures new { seen (cell_at inside.new n) ≡ beside_seen item since (B.marks ready.now.book (seen (cell_at around.now 0)).level.state tag) (entered_seen (reach_of ready.now) (machine_of ready.now) 0 tag (seen (cell_at around.now 0))) }
 {
-    enter_level(ready, rows, d, n, tag);
-    let base = cell_at(&rows[d], 0);
-    let child = cell_at(&rows[d + 1], 0);
-    let state = ready.book().mark(base.state(), tag);
-    put(&mut rows[d + 1], n, child.beside(item, since, state));
+    for (place, cell) in around[..n].iter().enumerate() {
+        inside[place] = cell.entered(ready, place as u8, tag);
+    }
+    let state = ready.book().mark(around[0].state(), tag);
+    inside[n] = inside[0].beside(item, since, state);
 }
 
-// The items of level d, whose row has n cells in use, are judged: how many orders, and how many cells are in use then.
-pub(crate) fn settle_level<B: ShapeBook>(
+// The runs of the first n of these cells leave their item, which has the tag `tag`.
+fn leave_cells<B: ShapeBook>(
     ready: &Ready<B>,
-    rows: &mut [[Cell; CELLS]],
-    d: usize,
-    n: usize,
-    call: Event,
-    event: u32,
-    orders: &mut [Order],
-) -> (usize, usize)
-    requires { (d < length rows.old) × (1 ≤ n) × (n ≤ 130) × (n ≤ length orders.old + 1) }
-    ensures settled { Settled (B.ShapeBook.machine ready.now.book) call event (held_view rows.old d n) orders.old orders.new result.0 (held_view rows.new d result.1) result.1 }
-    ensures base { base_view rows.new d ≡ base_view rows.old d }
-    ensures some { (1 ≤ result.1) × (result.1 ≤ n) }
-    ensures total { result.0 + result.1 ≤ n }
-{
-    settle_row(ready, &mut rows[d], n, call, event, orders)
-}
-
-// The item of tag `tag` around level d + 1 closes: the first n runs of that level go on in level d, and are judged there.
-pub(crate) fn close_level<B: ShapeBook>(
-    ready: &Ready<B>,
-    rows: &mut [[Cell; CELLS]],
-    d: usize,
+    around: &[Cell],
+    inside: &mut [Cell],
     n: usize,
     tag: u8,
-    event: u32,
-    orders: &mut [Order],
-) -> (usize, usize)
-    requires { (d + 1 < length rows.old) × (1 ≤ n) × (n ≤ 130) × (n ≤ length orders.old + 1) }
-    ensures settled { Settled (B.ShapeBook.machine ready.now.book) (Close tag) event (map (onward (reach_of ready.now) (B.ShapeBook.machine ready.now.book) (Close tag)) (held_view rows.old (d + 1) n)) orders.old orders.new result.0 (held_view rows.new d result.1) result.1 }
-    ensures base { base_view rows.new d ≡ moved (reach_of ready.now) (B.ShapeBook.machine ready.now.book) (Close tag) (base_view rows.old (d + 1)) }
-    ensures some { (1 ≤ result.1) × (result.1 ≤ n) }
-    ensures total { result.0 + result.1 ≤ n }
+)
+    requires { n ≤ length inside.old }
+    ensures { (k : ℕ) → k < n → seen (cell_at inside.new k) ≡ left_seen (machine_of ready.now) tag around.now (seen (cell_at inside.old k)) }
 {
-    leave_level(ready, rows, d, n, tag);
-    let call = Event::Close(tag);
-    let (sent, left) = settle_row(ready, &mut rows[d + 1], n, call, event, orders);
-    lower_level(rows, d, left);
-    (sent, left)
+    for cell in inside[..n].iter_mut() {
+        *cell = cell.left(ready, around, tag);
+    }
+}
+
+fn copy_cells(from: &[Cell], to: &mut [Cell])
+    requires { length from.now ≤ length to.old }
+    ensures { (k : ℕ) → k < length from.now → cell_at to.new k ≡ cell_at from.now k }
+{
+    to[..from.len()].copy_from_slice(from);
 }
 
 // How many of the cells are those of items that would be held inside an item of tag `tag`?
 fn count_inside<B: ShapeBook>(ready: &Ready<B>, cells: &[Cell], tag: u8) -> usize
-    ensures within { result ≤ length cells.now }
-    ensures count { result ≡ length (filter (held_child (reach_of ready.now) (B.ShapeBook.machine ready.now.book) tag) cells.now) }
+    ensures { result ≡ count_by (held_child (reach_of ready.now) (machine_of ready.now) tag) cells.now }
 {
-    let call = Event::Open(tag);
-    let mut held = 0;
-    for cell in cells.iter() {
-        let child = cell.entered(ready, 0, tag);
-        if child.is_held(ready, call) {
-            held += 1;
-        }
-    }
-    held
+    cells
+        .iter()
+        .filter(|cell| is_held_inside(ready, cell, tag))
+        .count()
+}
+
+// Would its item be held inside an item of tag `tag` that opens?
+fn is_held_inside<B: ShapeBook>(ready: &Ready<B>, cell: &Cell, tag: u8) -> bool
+    ensures { result ≡ held_child (reach_of ready.now) (machine_of ready.now) tag cell.now }
+{
+    let child = cell.entered(ready, 0, tag);
+    child.is_held(ready, Event::Open(tag))
 }
 
 // Would an item of tag `tag` be held at its own open, where this is the base's cell?
 fn holds_new<B: SelectingBook>(ready: &Ready<B>, base: &Cell, tag: u8) -> bool
-    ensures { (item since : ℕ) (under : List Level) → result ≡ is_held (B.ShapeBook.machine ready.now.book) (Open tag) (holding_new item since (marked (reach_of ready.now) (selecting (B.ShapeBook.machine ready.now.book) (B.SelectingBook.marks ready.now.book)) tag (track (seen base.now).level under))) }
+    ensures { (item since : ℕ) (under : List Level) → result ≡ is_held (machine_of ready.now) (Open tag) (holding_new item since (marked (reach_of ready.now) (selecting (machine_of ready.now) (B.marks ready.now.book)) tag (track (seen base.now).level under))) }
 {
     let state = ready.book().mark(base.state(), tag);
     let new = base.entered(ready, 0, tag).beside(0, 0, state);
     new.is_held(ready, Event::Open(tag))
-}
-
-// How many items would be held, were an item of tag `tag` opened at level d, whose row has n cells in use?
-pub(crate) fn held_inside<B: SelectingBook>(
-    ready: &Ready<B>,
-    rows: &[[Cell; CELLS]],
-    d: usize,
-    n: usize,
-    tag: u8,
-) -> usize
-    requires { (d < length rows.now) × (1 ≤ n) × (n ≤ 130) }
-    ensures { (item since : ℕ) → result ≡ length (filter (is_held (B.ShapeBook.machine ready.now.book) (Open tag)) (map (onward (reach_of ready.now) (B.ShapeBook.machine ready.now.book) (Open tag)) (held_view rows.now d n) ++ (holding_new item since (marked (reach_of ready.now) (selecting (B.ShapeBook.machine ready.now.book) (B.SelectingBook.marks ready.now.book)) tag (base_view rows.now d)) ∷ []))) }
-{
-    let row = &rows[d];
-    let base = cell_at(row, 0);
-    let old = count_inside(ready, &row[1..n], tag);
-    if holds_new(ready, &base, tag) {
-        return old + 1;
-    }
-    old
 }

@@ -1,14 +1,14 @@
 use Rattle.std.proofs.Common.{◌≡◌, ℕ, Bool, ap, ◌∙◌}
 use Rattle.book.specs.declared.event.Event.TheVariants.{Open}
 use Rattle.book.specs.Machines.{Machine}
-use Rattle.levels.specs.Sets.{reach_of}
+use Rattle.levels.specs.Sets.{machine_of, reach_of}
 use Rattle.cells.specs.Cells.{Seen, seen, alone, entered_seen, beside_seen}
 use Rattle.scan.specs.Model.{is_held}
 use Rattle.scan_calls.proofs.rows.holds_new.Goals as goal
 
 pub returns : goal.returns
 returns g c = λ item since under.
-    let m : Machine = g.B.ShapeBook.machine c.args.ready.now.book in
+    let m : Machine = machine_of c.args.ready.now in
     let reach : ℕ → ℕ → Bool = reach_of c.args.ready.now in
     let t : ℕ = c.args.tag in
     let first : Seen = seen c.args.base.now in

@@ -1,6 +1,9 @@
+use Rattle.std.proofs.Common.{◌≡◌, ℕ, true, false, ◌&&◌, ltb, ap, ◌∙◌, rules}
 use Rattle.scan.specs.Tracks.{answers}
-use Rattle.levels.proofs.Filling.{no_state}
 use Rattle.levels.proofs.sets.Sets.ending.Goals as goal
 
-pub loop-state-init : goal.loop-state-init
-loop-state-init g c = λ b q. no_state (answers (g.B.ShapeBook.machine c.args.ready.now.book) b) q _ (c.empty-found.ensures.bare b q)
+pub returns : goal.returns
+returns g c = λ b q.
+    let m = g.B.ShapeBook.machine c.args.ready.now.book in
+    let wide : c.width.result ≡ m.width = search rules in
+    c.of.ensures (answers m) (λ p a lt post. elim [ true ↦ search rules | false ↦ search rules ]) b q ∙ ap (λ (n : ℕ). ltb q n && answers m b q) wide

@@ -4,12 +4,12 @@ use Rattle.book.specs.declared.event.Event.TheVariants.{Close}
 use Rattle.book.specs.declared.answer.Order.{Order}
 use Rattle.book.specs.declared.answer.Refusal.{Refusal}
 use Rattle.book.specs.Checks.{scan_lines}
-use Rattle.book.specs.Machines.{Selecting, selecting}
+use Rattle.book.specs.Machines.{Selecting}
 use Rattle.scan.specs.Model.{Holding, Model, test, onward, pending, totals, due_at, next}
-use Rattle.scan_calls.specs.Scans.{stack, place_of, model_of, table_of}
-use Rattle.scan_calls.specs.Rows.{base_view, held_view}
+use Rattle.scan_calls.specs.Scans.{stack, place_of, model_of, meaning_of, table_of}
+use Rattle.scan_calls.specs.declared.scanning.Rows.{Rows}
+use Rattle.scan_calls.specs.Rows.{base_of, held_of}
 use Rattle.book.specs.Catalogue.{within, broken, after}
-use Rattle.scan.specs.Tracks.{moved}
 use Rattle.std.proofs.lemmas.Bool.{eq-eqb}
 use Rattle.scan_calls.proofs.Lines.{clear, going, some_open, top_is, stack_more, err_is, apart}
 use Rattle.scan_calls.proofs.Accepted.{model_is, answer_is, list_is}
@@ -19,7 +19,7 @@ pub returns-in_err-check_close : goal.returns-in_err-check_close
 returns-in_err-check_close g c =
     let s = c.args.self.now in
     let t : ℕ = c.args.tag in
-    let m : Selecting = selecting (g.B.ShapeBook.machine s.ready.book) (g.B.SelectingBook.marks s.ready.book) in
+    let m : Selecting = meaning_of s in
     let reach : ℕ → ℕ → Bool = table_of s in
     let old : Model = model_of s in
     let os : List Order = c.args.orders.now in
@@ -37,7 +37,7 @@ pub returns : goal.returns
 returns g c =
     let s = c.args.self.now in
     let t : ℕ = c.args.tag in
-    let m : Selecting = selecting (g.B.ShapeBook.machine s.ready.book) (g.B.SelectingBook.marks s.ready.book) in
+    let m : Selecting = meaning_of s in
     let reach : ℕ → ℕ → Bool = table_of s in
     let old : Model = model_of s in
     let os : List Order = c.args.orders.now in
@@ -45,31 +45,28 @@ returns g c =
     let ok = c.in_ok-check_close.ensures in
     let free = clear p scan_lines (tt {0}) ok in
     let on : s.ended ≡ false = going s.ended _ free.1.0 in
-    let k = c.close_level-sent.ensures in
-    let sent : ℕ = c.close_level-sent.result.0 in
-    let left : ℕ = c.close_level-sent.result.1 in
-    let rows = c.close_level-sent.new.rows in
-    let later : List Order = c.close_level-sent.new.orders in
+    let k = c.close-sent.ensures in
+    let sent : ℕ = c.close-sent.result in
+    let rows : Rows = c.close-sent.new.self in
+    let later : List Order = c.close-sent.new.orders in
     let event : ℕ = s.events + 1 in
     let number : event ≡ suc s.events = omega arith in
-    let some : 1 ≤ s.depth = some_open s.ended s.tags s.depth on free.1.1.1.1.1.1.1.0 in
-    let top = top_is s.ended s.tags s.depth on t some free.1.1.1.1.1.1.1.1.0 in
-    let d : ℕ = s.depth - 1 in
-    let up : d + 1 ≡ s.depth = omega arith in
-    let items : List Holding = map (onward reach m.shape (Close t)) (held_view s.rows.cells (d + 1) s.count) in
-    let judged : items ≡ pending reach m old (Close t) = ap (λ (j : ℕ). map (onward reach m.shape (Close t)) (held_view s.rows.cells j s.count)) up
-    ∙ sym (append-nil (map (onward reach m.shape (Close t)) (held_view s.rows.cells s.depth s.count))) in
-    let new : Model = record { place = place_of s.ended (stack s.tags d); events = event; opened = s.opened; ordered = s.ordered + sent; base = base_view rows d; held = held_view rows d left } in
+    let some : 1 ≤ s.rows.depth = some_open s.ended s.tags s.rows.depth on free.1.1.1.1.1.1.1.0 in
+    let top = top_is s.ended s.tags s.rows.depth on t some free.1.1.1.1.1.1.1.1.0 in
+    let d : ℕ = s.rows.depth - 1 in
+    let items : List Holding = map (onward reach m.shape (Close t)) (held_of s.rows) in
+    let judged : items ≡ pending reach m old (Close t) = sym (append-nil items) in
+    let new : Model = record { place = place_of s.ended (stack s.tags rows.depth); events = event; opened = s.opened; ordered = s.ordered + sent; base = base_of rows; held = held_of rows } in
     let place : new.place ≡ after old.place (Close t) =
-    ap (λ (x : Bool). place_of x (stack s.tags d)) on
+    ap (λ (k : ℕ). place_of s.ended (stack s.tags k)) k.depth
+    ∙ ap (λ (x : Bool). place_of x (stack s.tags d)) on
     ∙ ap (λ (x : Bool). cond x (within (stack s.tags d)) broken) (sym (eq-eqb (get_or s.tags d 0) t top))
-    ∙ ap (λ (us : List ℕ). after (within us) (Close t)) (sym (stack_more s.tags s.depth some))
-    ∙ ap (λ (x : Bool). after (place_of x (stack s.tags s.depth)) (Close t)) (sym on) in
-    let base : new.base ≡ moved reach m.shape (Close t) old.base = k.base ∙ ap (λ (j : ℕ). moved reach m.shape (Close t) (base_view s.rows.cells j)) up in
+    ∙ ap (λ (us : List ℕ). after (within us) (Close t)) (sym (stack_more s.tags s.rows.depth some))
+    ∙ ap (λ (x : Bool). after (place_of x (stack s.tags s.rows.depth)) (Close t)) (sym on) in
     record {
       same = refl;
-      answer = answer_is reach m (Close t) old new event sent left items os later number judged k.settled place refl refl refl base c.totals.result c.totals.ensures ok;
-      list = list_is reach m (Close t) old new event sent left items os later number judged k.settled place refl refl refl base c.totals.result c.totals.ensures;
-      model = model_is reach m (Close t) old new event sent left items os later number judged k.settled place refl refl refl base;
+      answer = answer_is reach m (Close t) old new event sent rows.count items os later number judged k.settled place refl refl refl k.base c.totals.result c.totals.ensures ok;
+      list = list_is reach m (Close t) old new event sent rows.count items os later number judged k.settled place refl refl refl k.base c.totals.result c.totals.ensures;
+      model = model_is reach m (Close t) old new event sent rows.count items os later number judged k.settled place refl refl refl k.base;
       unchanged = λ l e. apart c.totals.result l e;
     }

@@ -4,12 +4,13 @@ use Rattle.book.specs.declared.event.Event.TheVariants.{End}
 use Rattle.book.specs.declared.answer.Order.{Order}
 use Rattle.book.specs.declared.answer.Refusal.{Refusal}
 use Rattle.book.specs.Checks.{scan_lines}
-use Rattle.book.specs.Machines.{Selecting, selecting}
+use Rattle.book.specs.Machines.{Selecting}
 use Rattle.scan.specs.Model.{Holding, Model, test, onward, pending, totals, due_at, next}
-use Rattle.scan_calls.specs.Scans.{stack, place_of, model_of, table_of}
-use Rattle.scan_calls.specs.Rows.{base_view, held_view}
+use Rattle.scan_calls.specs.Scans.{stack, place_of, model_of, meaning_of, table_of}
+use Rattle.scan_calls.specs.declared.scanning.Rows.{Rows}
+use Rattle.scan_calls.specs.Rows.{base_of, held_of}
 use Rattle.book.specs.Catalogue.{within, over, after}
-use Rattle.scan_calls.proofs.Views.{stays}
+use Rattle.scan_calls.proofs.Views.{stays, settled_here, settled_base}
 use Rattle.scan_calls.proofs.Lines.{clear, going, none_open, err_is, apart}
 use Rattle.scan_calls.proofs.Accepted.{model_is, answer_is, list_is}
 use Rattle.scan_calls.proofs.scanning.Scan.make_end.Goals as goal
@@ -17,7 +18,7 @@ use Rattle.scan_calls.proofs.scanning.Scan.make_end.Goals as goal
 pub returns-in_err-check_end : goal.returns-in_err-check_end
 returns-in_err-check_end g c =
     let s = c.args.self.now in
-    let m : Selecting = selecting (g.B.ShapeBook.machine s.ready.book) (g.B.SelectingBook.marks s.ready.book) in
+    let m : Selecting = meaning_of s in
     let reach : ℕ → ℕ → Bool = table_of s in
     let old : Model = model_of s in
     let os : List Order = c.args.orders.now in
@@ -34,7 +35,7 @@ returns-in_err-check_end g c =
 pub returns : goal.returns
 returns g c =
     let s = c.args.self.now in
-    let m : Selecting = selecting (g.B.ShapeBook.machine s.ready.book) (g.B.SelectingBook.marks s.ready.book) in
+    let m : Selecting = meaning_of s in
     let reach : ℕ → ℕ → Bool = table_of s in
     let old : Model = model_of s in
     let os : List Order = c.args.orders.now in
@@ -42,22 +43,23 @@ returns g c =
     let ok = c.in_ok-check_end.ensures in
     let free = clear p scan_lines (tt {0}) ok in
     let on : s.ended ≡ false = going s.ended _ free.1.0 in
-    let k = c.settle_level-sent.ensures in
-    let sent : ℕ = c.settle_level-sent.result.0 in
-    let left : ℕ = c.settle_level-sent.result.1 in
-    let rows = c.settle_level-sent.new.rows in
-    let later : List Order = c.settle_level-sent.new.orders in
+    let k = c.settle-sent.ensures in
+    let sent : ℕ = c.settle-sent.result in
+    let rows : Rows = c.settle-sent.new.self in
+    let later : List Order = c.settle-sent.new.orders in
     let event : ℕ = s.events + 1 in
     let number : event ≡ suc s.events = omega arith in
-    let none : s.depth ≡ 0 = none_open s.ended s.tags s.depth on free.1.1.1.1.1.1.1.1.1.0 in
-    let items : List Holding = held_view s.rows.cells s.depth s.count in
+    let none : s.rows.depth ≡ 0 = none_open s.ended s.tags s.rows.depth on free.1.1.1.1.1.1.1.1.1.0 in
+    let items : List Holding = held_of s.rows in
     let judged : items ≡ pending reach m old End = sym (append-nil (map (onward reach m.shape End) items) ∙ stays reach m.shape items) in
-    let new : Model = record { place = over; events = event; opened = s.opened; ordered = s.ordered + sent; base = base_view rows s.depth; held = held_view rows s.depth left } in
-    let place : over ≡ after old.place End = ap (λ (d : ℕ). after (within (stack s.tags d)) End) (sym none) ∙ ap (λ (x : Bool). after (place_of x (stack s.tags s.depth)) End) (sym on) in
+    let new : Model = record { place = over; events = event; opened = s.opened; ordered = s.ordered + sent; base = base_of rows; held = held_of rows } in
+    let place : over ≡ after old.place End = ap (λ (d : ℕ). after (within (stack s.tags d)) End) (sym none) ∙ ap (λ (x : Bool). after (place_of x (stack s.tags s.rows.depth)) End) (sym on) in
+    let settled = settled_here s.rows rows k.depth m.shape End event os later sent k.settled in
+    let base : new.base ≡ old.base = settled_base s.rows rows k.depth k.only k.base in
     record {
       same = refl;
-      answer = answer_is reach m End old new event sent left items os later number judged k.settled place refl refl refl k.base c.totals.result c.totals.ensures ok;
-      list = list_is reach m End old new event sent left items os later number judged k.settled place refl refl refl k.base c.totals.result c.totals.ensures;
-      model = model_is reach m End old new event sent left items os later number judged k.settled place refl refl refl k.base;
+      answer = answer_is reach m End old new event sent rows.count items os later number judged settled place refl refl refl base c.totals.result c.totals.ensures ok;
+      list = list_is reach m End old new event sent rows.count items os later number judged settled place refl refl refl base c.totals.result c.totals.ensures;
+      model = model_is reach m End old new event sent rows.count items os later number judged settled place refl refl refl base;
       unchanged = λ l e. apart c.totals.result l e;
     }

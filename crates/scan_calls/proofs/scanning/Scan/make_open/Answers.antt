@@ -4,10 +4,12 @@ use Rattle.book.specs.declared.event.Event.TheVariants.{Open}
 use Rattle.book.specs.declared.answer.Order.{Order}
 use Rattle.book.specs.declared.answer.Refusal.{Refusal}
 use Rattle.book.specs.Checks.{scan_lines}
-use Rattle.book.specs.Machines.{Selecting, selecting}
+use Rattle.book.specs.Machines.{Selecting}
 use Rattle.scan.specs.Model.{Holding, Model, test, onward, pending, totals, due_at, next}
-use Rattle.scan_calls.specs.Scans.{stack, place_of, model_of, table_of}
-use Rattle.scan_calls.specs.Rows.{base_view, held_view, holding_new}
+use Rattle.scan_calls.specs.Scans.{stack, place_of, model_of, meaning_of, table_of}
+use Rattle.scan_calls.proofs.Views.{settled_here, settled_base}
+use Rattle.scan_calls.specs.declared.scanning.Rows.{Rows}
+use Rattle.scan_calls.specs.Rows.{base_of, held_of, holding_new}
 use Rattle.book.specs.Limits.{tags}
 use Rattle.book.specs.Catalogue.{within, broken, after}
 use Rattle.scan.specs.Tracks.{moved, marked}
@@ -20,7 +22,7 @@ pub returns-in_err-check_open : goal.returns-in_err-check_open
 returns-in_err-check_open g c =
     let s = c.args.self.now in
     let t : ℕ = c.args.tag in
-    let m : Selecting = selecting (g.B.ShapeBook.machine s.ready.book) (g.B.SelectingBook.marks s.ready.book) in
+    let m : Selecting = meaning_of s in
     let reach : ℕ → ℕ → Bool = table_of s in
     let old : Model = model_of s in
     let os : List Order = c.args.orders.now in
@@ -38,7 +40,7 @@ pub returns : goal.returns
 returns g c =
     let s = c.args.self.now in
     let t : ℕ = c.args.tag in
-    let m : Selecting = selecting (g.B.ShapeBook.machine s.ready.book) (g.B.SelectingBook.marks s.ready.book) in
+    let m : Selecting = meaning_of s in
     let reach : ℕ → ℕ → Bool = table_of s in
     let old : Model = model_of s in
     let os : List Order = c.args.orders.now in
@@ -46,36 +48,36 @@ returns g c =
     let ok = c.in_ok-check_open.ensures in
     let free = clear p scan_lines (tt {0}) ok in
     let on : s.ended ≡ false = going s.ended _ free.1.0 in
-    let k = c.settle_level-sent.ensures in
-    let sent : ℕ = c.settle_level-sent.result.0 in
-    let left : ℕ = c.settle_level-sent.result.1 in
-    let rows = c.settle_level-sent.new.rows in
-    let later : List Order = c.settle_level-sent.new.orders in
+    let k = c.settle-sent.ensures in
+    let sent : ℕ = c.settle-sent.result in
+    let mid : Rows = c.open.new.self in
+    let rows : Rows = c.settle-sent.new.self in
+    let later : List Order = c.settle-sent.new.orders in
     let event : ℕ = s.events + 1 in
     let number : event ≡ suc s.events = omega arith in
-    let mid = c.open_level.new.rows in
-    let o = c.open_level.ensures in
-    let d : ℕ = s.depth in
+    let o = c.open.ensures in
+    let d : ℕ = s.rows.depth in
     let small : t < tags = (let z = leb-false tags t free.1.1.1.0 in omega arith) in
     let room : d < length s.tags = omega arith in
     let up : d + 1 ≡ suc d = omega arith in
     let more : s.opened + 1 ≡ suc s.opened = omega arith in
-    let items : List Holding = held_view mid (d + 1) (s.count + 1) in
+    let items : List Holding = held_of mid in
     let judged : items ≡ pending reach m old (Open t) = o.held
-    ∙ (λ i. map (onward reach m.shape (Open t)) (held_view s.rows.cells d s.count) ++ (holding_new (more i) (number i) (marked reach m t (base_view s.rows.cells d)) ∷ [])) in
-    let new : Model = record { place = place_of s.ended (stack (set s.tags d t) (d + 1)); events = event; opened = s.opened + 1; ordered = s.ordered + sent; base = base_view rows (d + 1); held = held_view rows (d + 1) left } in
+    ∙ (λ i. map (onward reach m.shape (Open t)) (held_of s.rows) ++ (holding_new (more i) (number i) (marked reach m t (base_of s.rows)) ∷ [])) in
+    let new : Model = record { place = place_of s.ended (stack (set s.tags d t) rows.depth); events = event; opened = s.opened + 1; ordered = s.ordered + sent; base = base_of rows; held = held_of rows } in
     let same : d ≤ d = omega arith in
     let place : new.place ≡ after old.place (Open t) =
-    ap (λ (x : Bool). place_of x (stack (set s.tags d t) (d + 1))) on
-    ∙ ap (λ (j : ℕ). within (stack (set s.tags d t) j)) up
+    ap (λ (x : Bool). place_of x (stack (set s.tags d t) rows.depth)) on
+    ∙ ap (λ (j : ℕ). within (stack (set s.tags d t) j)) (k.depth ∙ o.depth ∙ up)
     ∙ (λ i. within (get_or-set_same s.tags d t 0 room i ∷ stack_set s.tags d t d same i))
     ∙ ap (λ (x : Bool). cond x (within (t ∷ stack s.tags d)) broken) (sym (lt-ltb t tags small))
     ∙ ap (λ (x : Bool). after (place_of x (stack s.tags d)) (Open t)) (sym on) in
-    let base : new.base ≡ moved reach m.shape (Open t) old.base = k.base ∙ o.base in
+    let settled = settled_here mid rows k.depth m.shape (Open t) event os later sent k.settled in
+    let base : new.base ≡ moved reach m.shape (Open t) old.base = settled_base mid rows k.depth k.only k.base ∙ o.base in
     record {
       same = refl;
-      answer = answer_is reach m (Open t) old new event sent left items os later number judged k.settled place refl more refl base c.totals.result c.totals.ensures ok;
-      list = list_is reach m (Open t) old new event sent left items os later number judged k.settled place refl more refl base c.totals.result c.totals.ensures;
-      model = model_is reach m (Open t) old new event sent left items os later number judged k.settled place refl more refl base;
+      answer = answer_is reach m (Open t) old new event sent rows.count items os later number judged settled place refl more refl base c.totals.result c.totals.ensures ok;
+      list = list_is reach m (Open t) old new event sent rows.count items os later number judged settled place refl more refl base c.totals.result c.totals.ensures;
+      model = model_is reach m (Open t) old new event sent rows.count items os later number judged settled place refl more refl base;
       unchanged = λ l e. apart c.totals.result l e;
     }

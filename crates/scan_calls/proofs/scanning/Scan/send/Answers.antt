@@ -1,19 +1,22 @@
-use Rattle.book.specs.Machines.{Selecting, selecting}
-use Rattle.scan.proofs.Standing.{step_kept}
-use Rattle.scan_calls.specs.Scans.{model_of, table_of}
+use Rattle.std.proofs.Common.{subst}
+use Rattle.book.specs.Machines.{LawfulMarks}
+use Rattle.scan_calls.proofs.Accepted.{called}
 use Rattle.scan_calls.proofs.scanning.Scan.send.Goals as goal
 
-pub returns : goal.returns
-returns g c =
+pub returns-in-Open : goal.returns-in-Open
+returns-in-Open g c =
     let s = c.args.self.now in
-    let m : Selecting = selecting (g.B.ShapeBook.machine s.ready.book) (g.B.SelectingBook.marks s.ready.book) in
-    let k = c.make.ensures in
-    record {
-      same = k.same;
-      answer = k.answer;
-      list = k.list;
-      model = k.model;
-      unchanged = k.unchanged;
-      kept = step_kept (table_of s) m (model_of s) (model_of c.make.new.self) c.args.call c.args.orders.now c.make.new.orders c.make.result k.answer k.list k.model
-          (g.met.B.ShapeBook.lawful s.ready.book) (g.met.B.SelectingBook.lawful_marks s.ready.book);
-    }
+    called c.args.call _ c.in-Open.is s _ _ _ _ (g.B.ShapeBook.lawful s.ready.book)
+    (subst (λ (b : g.row.B.Denot). LawfulMarks (g.B.ShapeBook.machine b) (g.B.SelectingBook.marks b)) c.book.ensures c.marked.ensures) c.make_open.ensures
+
+pub returns-in-Close : goal.returns-in-Close
+returns-in-Close g c =
+    let s = c.args.self.now in
+    called c.args.call _ c.in-Close.is s _ _ _ _ (g.B.ShapeBook.lawful s.ready.book)
+    (subst (λ (b : g.row.B.Denot). LawfulMarks (g.B.ShapeBook.machine b) (g.B.SelectingBook.marks b)) c.book.ensures c.marked.ensures) c.make_close.ensures
+
+pub returns-in-End : goal.returns-in-End
+returns-in-End g c =
+    let s = c.args.self.now in
+    called c.args.call _ c.in-End.is s _ _ _ _ (g.B.ShapeBook.lawful s.ready.book)
+    (subst (λ (b : g.row.B.Denot). LawfulMarks (g.B.ShapeBook.machine b) (g.B.SelectingBook.marks b)) c.book.ensures c.marked.ensures) c.make_end.ensures

@@ -2,19 +2,19 @@ use Rattle.std.proofs.Common.{ℕ, suc, ◌≤◌, ltb, length, sym, ap, arith}
 use Rattle.std.proofs.lemmas.Bool.{le-ltb}
 use Rattle.book.specs.declared.event.Event.TheVariants.{Open}
 use Rattle.book.specs.Limits.{most_held}
-use Rattle.book.specs.Machines.{Selecting, selecting}
+use Rattle.book.specs.Machines.{Selecting}
 use Rattle.scan.specs.Model.{held_at}
-use Rattle.scan_calls.specs.Scans.{model_of, table_of}
+use Rattle.scan_calls.specs.Scans.{model_of, meaning_of, table_of}
 use Rattle.scan_calls.proofs.Views.{few_held}
 use Rattle.scan_calls.proofs.scanning.Scan.would_overfill.Goals as goal
 
 pub returns-then-self-le-MOST_HELD : goal.returns-then-self-le-MOST_HELD
 returns-then-self-le-MOST_HELD g c =
     let s = c.args.self.now in
-    let m : Selecting = selecting (g.B.ShapeBook.machine s.ready.book) (g.B.SelectingBook.marks s.ready.book) in
+    let m : Selecting = meaning_of s in
     let n : ℕ = length (held_at (table_of s) m (model_of s) (Open c.args.tag)) in
-    let some : 1 ≤ s.count = omega arith in
-    let few : n ≤ s.count = few_held (table_of s) m.shape c.args.tag s.rows.cells s.depth s.count some _ in
+    let some : 1 ≤ s.rows.count = omega arith in
+    let few : n ≤ s.rows.count = few_held (table_of s) m.shape c.args.tag s.rows.cells s.rows.depth s.rows.count some _ in
     let small : n ≤ most_held = (let z = c.if-self-le-MOST_HELD.true in omega arith) in
     sym (le-ltb most_held n small)
 
