@@ -15,7 +15,7 @@ const ANY_TAG: u8 = 255;
 // The greatest tag of a step that fits one tag.
 const LAST_TAG: u8 = TAGS - 1;
 
-// A step as it is given.
+// A step as it is given, in numbers: an enum would ask more of callers.
 #[derive(Clone, Copy, Debug, PartialEq, Eq)]
 pub struct Step {
     // 0 child, 1 descendant
