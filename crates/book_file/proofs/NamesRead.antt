@@ -4,7 +4,7 @@ use Rattle.std.proofs.lemmas.List.{append_assoc, append-nil, length-take-le}
 use Rattle.book.specs.declared.fault.BookFault.{BookFault}
 use Rattle.book.specs.declared.fault.BookFault.TheVariants.{CutOff, NameByte}
 use Rattle.name_bytes.specs.Names.{between, name_limit}
-use Rattle.book_file.specs.Files.{misspelt, name_at, names_at, passed, then, unless}
+use Rattle.book_file.specs.Files.{misspelt, name_at, names_at, passed, and_then, unless}
 use Rattle.book_file.specs.Names.{unpacked}
 
 abbrev pub Listing : Type 0
@@ -12,13 +12,13 @@ Listing = Result (List (List ℕ)) BookFault
 
 -- names that were read, and then those that are read behind them
 abbrev pub behind : List (List ℕ) → Listing → Listing
-behind ws r = then r (λ vs. Ok (ws ++ vs))
+behind ws r = and_then r (λ vs. Ok (ws ++ vs))
 
 pub behind_none : (r : Listing) → r ≡ behind [] r
 behind_none (Ok vs) = refl
 behind_none (Err e) = refl
 
-behind_more : (ws : List (List ℕ)) (w : List ℕ) (r : Listing) → behind ws (then r (λ vs. Ok (w ∷ vs))) ≡ behind (ws ++ w ∷ []) r
+behind_more : (ws : List (List ℕ)) (w : List ℕ) (r : Listing) → behind ws (and_then r (λ vs. Ok (w ∷ vs))) ≡ behind (ws ++ w ∷ []) r
 behind_more ws w (Ok vs) = ap (λ xs. Ok xs) (sym (append_assoc ws (w ∷ []) vs))
 behind_more ws w (Err e) = refl
 
@@ -30,7 +30,7 @@ module _ (size count counter at : ℕ) (bs : List ℕ) (ws : List (List ℕ)) wh
       let more : count - counter ≡ suc (count - (counter + 1)) = omega arith in
       let left : ℕ = count - (counter + 1) in
       ap (λ n. behind ws (names_at size n at bs)) more
-      ∙ ap (λ r. behind ws (then r (λ v. then (names_at size left (at + suc (length v)) (drop (suc (length v)) bs)) (λ vs. Ok (v ∷ vs))))) (sym named)
+      ∙ ap (λ r. behind ws (and_then r (λ v. and_then (names_at size left (at + suc (length v)) (drop (suc (length v)) bs)) (λ vs. Ok (v ∷ vs))))) (sym named)
       ∙ behind_more ws w (names_at size left (at + suc (length w)) (drop (suc (length w)) bs))
       ∙ ap (λ n. behind (ws ++ w ∷ []) (names_at size left n (drop (suc (length w)) bs))) (sym p)
       ∙ ap (λ xs. behind (ws ++ w ∷ []) (names_at size left at' xs)) (sym q)
@@ -41,7 +41,7 @@ module _ (size count counter at : ℕ) (bs : List ℕ) (ws : List (List ℕ)) wh
       let more : count - counter ≡ suc (count - (counter + 1)) = omega arith in
       let left : ℕ = count - (counter + 1) in
       ap (λ n. behind ws (names_at size n at bs)) more
-      ∙ ap (λ r. behind ws (then r (λ v. then (names_at size left (at + suc (length v)) (drop (suc (length v)) bs)) (λ vs. Ok (v ∷ vs))))) (sym named)
+      ∙ ap (λ r. behind ws (and_then r (λ v. and_then (names_at size left (at + suc (length v)) (drop (suc (length v)) bs)) (λ vs. Ok (v ∷ vs))))) (sym named)
 
   -- all names are read, and what is left passes or does not
   pub names_finish : {U : Type 0} (r : Result U BookFault) → count ≤ counter → passed r [] ≡ names_at size 0 at bs → behind ws (names_at size (count - counter) at bs) ≡ passed r ws
@@ -71,12 +71,12 @@ names_unpack size zero at (b ∷ bs) ws h = cc
 names_unpack size (suc count) at [] ws h = cc
 names_unpack size (suc count) at (n ∷ bs) ws h = one (name_at size at (n ∷ bs)) refl h (λ a cs vs. names_unpack size count a cs vs)
   where
-    two : (w : List ℕ) (r : Listing) → then r (λ vs. Ok (w ∷ vs)) ≡ Ok ws → (vs : List (List ℕ)) × (r ≡ Ok vs) × (ws ≡ w ∷ vs)
+    two : (w : List ℕ) (r : Listing) → and_then r (λ vs. Ok (w ∷ vs)) ≡ Ok ws → (vs : List (List ℕ)) × (r ≡ Ok vs) × (ws ≡ w ∷ vs)
     two w (Ok vs) k = let e : ◌≡◌ {A = List (List ℕ)} (w ∷ vs) ws = cc in (vs, refl, sym e)
     two w (Err e) k = cc
 
     one : (r : Result (List ℕ) BookFault) → name_at size at (n ∷ bs) ≡ r →
-        then r (λ w. then (names_at size count (at + suc (length w)) (drop (suc (length w)) (n ∷ bs))) (λ vs. Ok (w ∷ vs))) ≡ Ok ws →
+        and_then r (λ w. and_then (names_at size count (at + suc (length w)) (drop (suc (length w)) (n ∷ bs))) (λ vs. Ok (w ∷ vs))) ≡ Ok ws →
         ((a : ℕ) (cs : List ℕ) (vs : List (List ℕ)) → names_at size count a cs ≡ Ok vs → vs ≡ unpacked count cs) →
         ws ≡ take n bs ∷ unpacked count (drop n bs)
     one (Ok w) e k rest =

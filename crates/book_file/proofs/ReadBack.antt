@@ -9,7 +9,7 @@ use Rattle.name_bytes.specs.Names.{all, between, name_byte, name_limit, name_sta
 use Rattle.book_file.specs.declared.header.Header.{Header}
 use Rattle.book_file.specs.declared.header.Kind.{Kind}
 use Rattle.book_file.specs.declared.header.Kind.TheVariants.{Selecting, Shape}
-use Rattle.book_file.specs.Files.{File, Filled, Right, bytes_of, entries, first_off, header, kind_byte, kind_of, mark_size, misspelt, name_at, names_at, names_bytes, reading, right_names, table_at, tables_at, tables_size, then, unless}
+use Rattle.book_file.specs.Files.{File, Filled, Right, bytes_of, entries, first_off, header, kind_byte, kind_of, mark_size, misspelt, name_at, names_at, names_bytes, reading, right_names, table_at, tables_at, tables_size, and_then, unless}
 use Rattle.book_file.proofs.FileRead.{file_read}
 use Rattle.book_file.proofs.FirstOff.{all_none, unless_none}
 use Rattle.book_file.proofs.TablesRead.{tables_behind}
@@ -110,9 +110,9 @@ names_back size at [] h = refl
 names_back size at (w ∷ ws) h =
     let p = and_parts (right_name w) (right_names ws) h in
     let next : ℕ = at + suc (length w) in
-    ap (λ r. then r (λ v. then (names_at size (length ws) (at + suc (length v)) (drop (length v) (w ++ names_bytes ws))) (λ vs. Ok (v ∷ vs)))) (name_back size at w (names_bytes ws) p.0)
-    ∙ ap (λ xs. then (names_at size (length ws) next xs) (λ vs. Ok (w ∷ vs))) (drop_at w (names_bytes ws) (length w) refl)
-    ∙ ap (λ r. then r (λ vs. Ok (w ∷ vs))) (names_back size next ws p.1)
+    ap (λ r. and_then r (λ v. and_then (names_at size (length ws) (at + suc (length v)) (drop (length v) (w ++ names_bytes ws))) (λ vs. Ok (v ∷ vs)))) (name_back size at w (names_bytes ws) p.0)
+    ∙ ap (λ xs. and_then (names_at size (length ws) next xs) (λ vs. Ok (w ∷ vs))) (drop_at w (names_bytes ws) (length w) refl)
+    ∙ ap (λ r. and_then r (λ vs. Ok (w ∷ vs))) (names_back size next ws p.1)
 
 -- The file --------------------------------------------------------------------------------------------------------
 

@@ -7,7 +7,7 @@ use Rattle.book.specs.declared.fault.BookFault.{BookFault}
 use Rattle.book.specs.declared.fault.BookFault.TheVariants.{CutOff, HeaderNumber, Letters, NameByte, ShortHeader, TableEntry, Version}
 use Rattle.name_bytes.specs.Names.{all, between, name_byte, name_limit, name_start, right_name}
 use Rattle.book_file.specs.declared.header.Header.{Header}
-use Rattle.book_file.specs.Files.{File, Filled, Right, Rows, bytes_of, entries, file_with, first_off, header, header_of, kind_byte, kind_of, mark_size, misspelt, name_at, names_at, names_bytes, reading, right_names, table_at, tables_at, tables_size, then, unless}
+use Rattle.book_file.specs.Files.{File, Filled, Right, Rows, bytes_of, entries, file_with, first_off, header, header_of, kind_byte, kind_of, mark_size, misspelt, name_at, names_at, names_bytes, reading, right_names, table_at, tables_at, tables_size, and_then, unless}
 use Rattle.book_file.specs.Table.{below}
 use Rattle.book_file.proofs.FirstOff.{none_all}
 use Rattle.book_file.proofs.TablesRead.{tables_behind}
@@ -34,7 +34,7 @@ module _ {A : Type 0} where
   unless_ok None fault a b h = (refl, ok_same (Ok a) b a h refl)
   unless_ok (Some at) fault a b h = cc
 
-pub then_ok : {A B : Type 0} (r : Result A BookFault) (f : A → Result B BookFault) (b : B) → then r f ≡ Ok b → (a : A) × (r ≡ Ok a) × (f a ≡ Ok b)
+pub then_ok : {A B : Type 0} (r : Result A BookFault) (f : A → Result B BookFault) (b : B) → and_then r f ≡ Ok b → (a : A) × (r ≡ Ok a) × (f a ≡ Ok b)
 then_ok (Ok a) f b h = (a, refl, h)
 then_ok (Err e) f b h = cc
 

@@ -1,5 +1,5 @@
 -- Book files, version 1: what they hold, how they are written, and how they are read.
-use Rattle.std.specs.Prelude.{◌≡◌, ℕ, zero, suc, ◌+◌, ◌-◌, ◌*◌, Bool, true, cond, ◌&&◌, List, [], ◌∷◌, ◌++◌, length, take, drop, Some, None, Ok, Err, Option, Result, ◌==◌, nat_le, nat_lt, slice_index}
+use Rattle.std.specs.Prelude.{◌≡◌, ℕ, zero, suc, ◌+◌, ◌-◌, ◌*◌, Bool, true, if◌then◌else◌, ◌&&◌, List, [], ◌∷◌, ◌++◌, length, take, drop, Some, None, Ok, Err, Option, Result, ◌==◌, nat_le, nat_lt, slice_index}
 use Rattle.std.specs.Borrow.{Bor}
 use Rattle.name_bytes.specs.Names.{between, name_byte, name_limit, name_start, right_name}
 use Rattle.book.specs.Limits.{most_states, tags}
@@ -70,14 +70,18 @@ bytes_of f =
 -- Reading ---------------------------------------------------------------------------------------------------------
 
 -- go on with what was read, or with the first fault
-abbrev pub then : {A B : Type 0} → Result A BookFault → (A → Result B BookFault) → Result B BookFault
-then (Ok a) f = f a
-then (Err e) f = Err e
+abbrev pub and_then : {A B : Type 0} → Result A BookFault → (A → Result B BookFault) → Result B BookFault
+and_then (Ok a) f = f a
+and_then (Err e) f = Err e
+
+-- what is read where a test is passed, or its fault
+abbrev pub given : {A : Type 0} → Bool → BookFault → Result A BookFault → Result A BookFault
+given test fault r = if test then r else Err fault
 
 -- of bytes from an offset on, the offset of the first that fails a test
 abbrev pub first_off : (ℕ → Bool) → ℕ → List ℕ → Option ℕ
 first_off test at [] = None
-first_off test at (b ∷ bs) = cond (test b) (first_off test (suc at) bs) (Some at)
+first_off test at (b ∷ bs) = if test b then first_off test (suc at) bs else Some at
 
 abbrev pub unless : {A : Type 0} → Option ℕ → (ℕ → BookFault) → A → Result A BookFault
 unless None fault a = Ok a
@@ -92,20 +96,19 @@ header_of bs = record { states = slice_index bs 5; trees = slice_index bs 6; col
 
 -- the kind that a byte of the header stands for
 abbrev pub kind_read : ℕ → Result Kind BookFault
-kind_read b = cond (nat_le b 1) (Ok (kind_of b)) (Err (HeaderNumber 8))
+kind_read b = given (nat_le b 1) (HeaderNumber 8) (Ok (kind_of b))
 
 -- the header: its length, its letters, its version, and then its numbers from the left
 abbrev pub header : List ℕ → Result Header BookFault
 header bs =
-    cond (nat_lt (length bs) 10) (Err (ShortHeader (length bs)))
-    (cond (slice_index bs 0 == 83 && (slice_index bs 1 == 69 && slice_index bs 2 == 76))
-    (cond (slice_index bs 3 == 1 && slice_index bs 4 == 0)
-    (cond (between 1 most_states (slice_index bs 5))
-    (cond (between 1 most_states (slice_index bs 6))
-    (cond (between 1 tags (slice_index bs 7))
-    (cond (nat_le (slice_index bs 8) 1)
-    (cond (nat_lt (slice_index bs 9) (slice_index bs 5)) (Ok (header_of bs))
-    (Err (HeaderNumber 9))) (Err (HeaderNumber 8))) (Err (HeaderNumber 7))) (Err (HeaderNumber 6))) (Err (HeaderNumber 5))) (Err Version)) (Err Letters))
+    if nat_lt (length bs) 10 then Err (ShortHeader (length bs)) else
+    given (slice_index bs 0 == 83 && (slice_index bs 1 == 69 && slice_index bs 2 == 76)) Letters
+    (given (slice_index bs 3 == 1 && slice_index bs 4 == 0) Version
+    (given (between 1 most_states (slice_index bs 5)) (HeaderNumber 5)
+    (given (between 1 most_states (slice_index bs 6)) (HeaderNumber 6)
+    (given (between 1 tags (slice_index bs 7)) (HeaderNumber 7)
+    (given (nat_le (slice_index bs 8) 1) (HeaderNumber 8)
+    (given (nat_lt (slice_index bs 9) (slice_index bs 5)) (HeaderNumber 9) (Ok (header_of bs))))))))
 
 -- a table at an offset: its first entry that is not below the bound is a fault
 abbrev pub table_at : ℕ → ℕ → List ℕ → Result (List ℕ) BookFault
@@ -145,30 +148,31 @@ tables_at h at bs =
     let from_mark : List ℕ = drop (entries h) from_enter in
     let from_up : List ℕ = drop (mark_size h.kind (entries h)) from_mark in
     let from_side : List ℕ = drop (entries h) from_up in
-    then (table_at 2 at (take h.states bs)) (λ accept.
-    then (table_at h.states at_enter (take (entries h) from_enter)) (λ enter.
-    then (table_at h.states at_mark (take (mark_size h.kind (entries h)) from_mark)) (λ mark.
-    then (table_at h.trees at_up (take (entries h) from_up)) (λ up.
-    then (table_at h.states at_side (take (h.states * h.trees) from_side)) (λ side.
+    and_then (table_at 2 at (take h.states bs)) (λ accept.
+    and_then (table_at h.states at_enter (take (entries h) from_enter)) (λ enter.
+    and_then (table_at h.states at_mark (take (mark_size h.kind (entries h)) from_mark)) (λ mark.
+    and_then (table_at h.trees at_up (take (entries h) from_up)) (λ up.
+    and_then (table_at h.states at_side (take (h.states * h.trees) from_side)) (λ side.
     Ok (record { accept = accept; enter = enter; mark = mark; up = up; side = side }))))))
 
 -- the first byte that a name may not have there
 abbrev pub misspelt : ℕ → List ℕ → Option ℕ
 misspelt at [] = None
-misspelt at (b ∷ bs) = cond (name_start b) (first_off name_byte (suc at) bs) (Some at)
+misspelt at (b ∷ bs) = if name_start b then first_off name_byte (suc at) bs else Some at
 
 -- a name at an offset of a file of some length: its own length, then whether it is whole, then its bytes
 abbrev pub name_at : ℕ → ℕ → List ℕ → Result (List ℕ) BookFault
 name_at size at [] = Err (CutOff size)
 name_at size at (n ∷ bs) =
-    cond (between 1 name_limit n) (cond (nat_le n (length bs)) (unless (misspelt (suc at) (take n bs)) NameByte (take n bs)) (Err (CutOff size))) (Err (NameByte at))
+    given (between 1 name_limit n) (NameByte at)
+    (given (nat_le n (length bs)) (CutOff size) (unless (misspelt (suc at) (take n bs)) NameByte (take n bs)))
 
 -- so many names, and nothing behind them
 abbrev pub names_at : ℕ → ℕ → ℕ → List ℕ → Result (List (List ℕ)) BookFault
 names_at size zero at [] = Ok []
 names_at size zero at (b ∷ bs) = Err (ExtraByte at)
 names_at size (suc count) at bs =
-    then (name_at size at bs) (λ w. then (names_at size count (at + suc (length w)) (drop (suc (length w)) bs)) (λ ws. Ok (w ∷ ws)))
+    and_then (name_at size at bs) (λ w. and_then (names_at size count (at + suc (length w)) (drop (suc (length w)) bs)) (λ ws. Ok (w ∷ ws)))
 
 abbrev pub file_with : Header → Rows → List (List ℕ) → File
 file_with h ts names = file h.kind (table h.states h.trees h.columns h.start ts.accept ts.enter ts.up ts.side) ts.mark names
@@ -176,7 +180,7 @@ file_with h ts names = file h.kind (table h.states h.trees h.columns h.start ts.
 -- the header, the tables (whole before any of their entries is looked at), the names
 abbrev pub reading : List ℕ → Result File BookFault
 reading bs =
-    then (header bs) (λ h.
-    cond (nat_lt (length bs) (10 + tables_size h)) (Err (CutOff (length bs)))
-    (then (tables_at h 10 (drop 10 bs)) (λ ts.
-    then (names_at (length bs) (h.columns - 1) (10 + tables_size h) (drop (10 + tables_size h) bs)) (λ ws. Ok (file_with h ts ws)))))
+    and_then (header bs) (λ h.
+    if nat_lt (length bs) (10 + tables_size h) then Err (CutOff (length bs)) else
+    and_then (tables_at h 10 (drop 10 bs)) (λ ts.
+    and_then (names_at (length bs) (h.columns - 1) (10 + tables_size h) (drop (10 + tables_size h) bs)) (λ ws. Ok (file_with h ts ws))))

@@ -1,5 +1,5 @@
 -- What a book file's names say: which tag a name has, and which name a tag has.
-use Rattle.std.specs.Prelude.{◌≡◌, ℕ, zero, suc, ◌-◌, ◌<◌, ◌≤◌, cond, List, [], ◌∷◌, length, take, drop, Some, None, Option, ◌==◌, ◌≢◌, slice_index_or}
+use Rattle.std.specs.Prelude.{◌≡◌, ℕ, zero, suc, ◌-◌, ◌<◌, ◌≤◌, if◌then◌else◌, List, [], ◌∷◌, length, take, drop, Some, None, Option, ◌==◌, ◌≢◌, slice_index_or}
 use Rattle.std.specs.Borrow.{Bor}
 use Rattle.std.specs.Option.{option_map}
 use Rattle.std.specs.Str.{bytes_eq}
@@ -23,7 +23,7 @@ words_left w = listed w.0
 -- of names that begin with that of a tag, the lowest tag with the same bytes, else 0
 abbrev pub lowest : ℕ → List (List ℕ) → List ℕ → ℕ
 lowest tag [] name = 0
-lowest tag (w ∷ ws) name = cond (bytes_eq w name) tag (lowest (suc tag) ws name)
+lowest tag (w ∷ ws) name = if bytes_eq w name then tag else lowest (suc tag) ws name
 
 abbrev pub tag_of : List (List ℕ) → List ℕ → ℕ
 tag_of names name = lowest 1 names name
@@ -37,7 +37,7 @@ pub record LowestTag (names : List (List ℕ)) (name : List ℕ) (tag : ℕ) : T
 -- of names that begin with that of a tag, the name of another tag
 abbrev pub named : ℕ → List (List ℕ) → ℕ → Option (List ℕ)
 named first [] tag = None
-named first (w ∷ ws) tag = cond (first == tag) (Some w) (named (suc first) ws tag)
+named first (w ∷ ws) tag = if first == tag then Some w else named (suc first) ws tag
 
 abbrev pub name_of : List (List ℕ) → ℕ → Option (List ℕ)
 name_of names tag = named 1 names tag

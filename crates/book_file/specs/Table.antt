@@ -1,5 +1,5 @@
 -- What the tables of a book file mean.
-use Rattle.std.specs.Prelude.{ℕ, ◌+◌, ◌*◌, Bool, cond, ◌&&◌, List, ◌==◌, nat_lt, slice_index}
+use Rattle.std.specs.Prelude.{ℕ, ◌+◌, ◌*◌, Bool, if◌then◌else◌, ◌&&◌, List, ◌==◌, nat_lt, slice_index}
 use Rattle.name_bytes.specs.Names.{all}
 use Rattle.book.specs.Limits.{tags}
 use Rattle.book.specs.Machines.{Machine, Marks}
@@ -27,7 +27,7 @@ entry xs columns row column = slice_index xs (row * columns + column)
 
 -- a tag that has no column of its own uses column 0
 abbrev pub column : ℕ → ℕ → ℕ
-column columns t = cond (nat_lt t columns) t 0
+column columns t = if nat_lt t columns then t else 0
 
 -- an item goes up to a tree state, and the tree state goes to the side of the outer state
 abbrev pub table_machine : Table → Machine
@@ -35,16 +35,15 @@ table_machine b =
     record {
       width = b.states;
       start = b.start;
-      enter = λ s t. cond (nat_lt s b.states && nat_lt t tags) (entry b.enter b.columns s (column b.columns t)) 0;
+      enter = λ s t. if nat_lt s b.states && nat_lt t tags then entry b.enter b.columns s (column b.columns t) else 0;
       back = λ s q t.
-          cond (nat_lt s b.states && (nat_lt q b.states && nat_lt t tags))
-          (entry b.side b.trees s (entry b.up b.columns q (column b.columns t)))
-          0;
+          if nat_lt s b.states && (nat_lt q b.states && nat_lt t tags)
+          then entry b.side b.trees s (entry b.up b.columns q (column b.columns t)) else 0;
       accepts = λ s. nat_lt s b.states && (slice_index b.accept s == 1);
     }
 
 abbrev pub table_marks : Table → List ℕ → Marks
-table_marks b mark s t = cond (nat_lt s b.states && nat_lt t tags) (entry mark b.columns s (column b.columns t)) 0
+table_marks b mark s t = if nat_lt s b.states && nat_lt t tags then entry mark b.columns s (column b.columns t) else 0
 
 -- Rules of range --------------------------------------------------------------------------------------------------
 

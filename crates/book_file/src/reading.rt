@@ -1,12 +1,11 @@
 // Reading a book file from its bytes.
-ghost use Rattle.std.specs.Prelude.{◌≡◌, ℕ, suc, ◌+◌, ◌*◌, ◌^◌, ◌<◌, ◌≤◌, true, cond, [], length, take, drop, slice_index, Ok, Err, IfOk, OnOk};
+ghost use Rattle.std.specs.Prelude.{◌≡◌, ◌<◌, length, slice_index, Ok, IfOk};
 ghost use Rattle.book.specs.declared.fault.BookFault.TheVariants.{HeaderNumber};
 ghost use Rattle.name_bytes.specs.Names.{between};
-ghost use Rattle.book_file.specs.Files.{entries, file_with, header, mark_size, misspelt, name_at, names_at, parted, passed, reading, table_at, tables_at, tables_size};
+ghost use Rattle.book_file.specs.Files.{file_with, given, header, reading};
 ghost use Rattle.book_file.specs.Laws.{WrittenOnce};
-ghost use Rattle.book_file.specs.Names.{listed, unpacked};
-ghost use Rattle.book_file.specs.Parts.{HeaderFits, TablesFilled, file_of, read_file, rows_of, tables_of};
-ghost use Rattle.book_file.specs.Table.{below};
+ghost use Rattle.book_file.specs.Names.{listed};
+ghost use Rattle.book_file.specs.Parts.{HeaderFits, TablesFilled, file_of, read_file, rows_of};
 
 use crate::file::{BookFile, NamedBook};
 use crate::header::{Header, Kind};
@@ -24,7 +23,7 @@ const STATES: u8 = 64;
 // A number of the header, which is from 1 to a limit.
 fn number_at(bytes: &[u8], at: usize, most: u8) -> Result<u8, BookFault>
     requires { at < length bytes.now }
-    ensures { result ≡ cond (between 1 most (slice_index bytes.now at)) (Ok (slice_index bytes.now at)) (Err (HeaderNumber at)) }
+    ensures { result ≡ given (between 1 most (slice_index bytes.now at)) (HeaderNumber at) (Ok (slice_index bytes.now at)) }
 {
     let number = bytes[at];
     if (1..=most).contains(&number) {

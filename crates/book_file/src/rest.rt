@@ -1,5 +1,5 @@
 // Reading the tables and the names of a book file, one behind another.
-ghost use Rattle.std.specs.Prelude.{◌≡◌, ℕ, suc, ◌+◌, ◌*◌, ◌^◌, ◌<◌, ◌≤◌, true, [], length, take, drop, IfOk, OnOk};
+ghost use Rattle.std.specs.Prelude.{◌≡◌, ℕ, suc, ◌+◌, ◌*◌, ◌^◌, ◌<◌, ◌≤◌, [], length, take, drop, IfOk, OnOk};
 ghost use Rattle.book_file.specs.Files.{misspelt};
 
 use crate::header::Header;
@@ -40,16 +40,15 @@ fn first_bad_byte(name: &[u8], at: usize) -> Option<usize>
 }
 
 impl<'a> Rest<'a> {
-    ghost use Rattle.book_file.specs.Files.{name_at, names_at, parted, passed, table_at, tables_at, tables_size};
+    ghost use Rattle.book_file.specs.Files.{Filled, name_at, names_at, parted, passed, table_at, tables_at, tables_size};
     ghost use Rattle.book_file.specs.Names.{unpacked};
     ghost use Rattle.book_file.specs.Parts.{TablesFilled, tables_of};
-    ghost use Rattle.book_file.specs.Table.{below};
 
     // The next table, of a size, with entries below a bound.
     fn table(&mut self, size: usize, bound: u16) -> Result<&'a [u8], BookFault>
         requires { size ≤ length self.old.bytes.now }
         ensures value { parted result ≡ table_at bound self.old.at (take size self.old.bytes.now) }
-        ensures filled { IfOk result (λ xs. (length xs.now ≡ size) × (below bound xs.now ≡ true)) }
+        ensures filled { IfOk result (λ xs. Filled size bound xs.now) }
         ensures bytes { self.new.bytes.now ≡ drop size self.old.bytes.now }
         ensures at { self.new.at ≡ self.old.at + size }
         ensures left { length self.new.bytes.now + size ≡ length self.old.bytes.now }
@@ -109,12 +108,11 @@ impl<'a> Rest<'a> {
         if length < 1 || length > NAME_LIMIT {
             return Err(BookFault::NameByte { at });
         }
-        if length > rest.len() {
+        let Some((name, rest)) = rest.split_at_checked(length) else {
             return Err(BookFault::CutOff {
                 length: self.size(),
             });
-        }
-        let (name, rest) = rest.split_at(length);
+        };
         if let Some(at) = first_bad_byte(name, at + 1) {
             return Err(BookFault::NameByte { at });
         }

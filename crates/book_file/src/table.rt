@@ -119,6 +119,7 @@ impl<'a> ShapeBook for TableBook<'a> {
     }
 }
 
+// It answers these questions as its shape book does; the language has no shorter way to say that of each method.
 impl<'a> ShapeBook for SelectingTableBook<'a> {
     ghost use Rattle.book_file.specs.Books.{tables_in};
     ghost use Rattle.book_file.specs.Table.{table_machine};

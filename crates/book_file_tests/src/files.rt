@@ -104,18 +104,14 @@ fn lowest_tag_of_a_name_that_stands_twice(rt: HostRuntime) -> Result<(), Fail> {
 #[test]
 fn longest_file(rt: HostRuntime) -> Result<(), Fail> {
     let mut bytes = [83, 69, 76, 1, 0, 64, 64, 32, 1, 63].to_vec(rt.alloc())?;
-    for _ in 0..64 {
-        bytes.push(1)?;
-    }
+    bytes.extend_from_slice(&[1; 64])?;
     // enter, mark and up, and then side
-    for _ in 0..3 * 64 * 32 + 64 * 64 {
-        bytes.push(63)?;
+    for _ in 0..3 * 32 + 64 {
+        bytes.extend_from_slice(&[63; 64])?;
     }
     for _ in 0..31 {
         bytes.push(64)?;
-        for _ in 0..64 {
-            bytes.push(b'z')?;
-        }
+        bytes.extend_from_slice(&[b'z'; 64])?;
     }
     assert!(rt; bytes.len() == 12329);
     let file = selecting_file(&bytes)?;

@@ -1,5 +1,5 @@
 -- Two books as one: its meaning, its rules of range, and its laws.
-use Rattle.std.specs.Prelude.{◌≡◌, ℕ, if◌then◌else◌, Option, Some, None, ◌+◌, ◌-◌, ◌*◌, ◌/◌, ◌%◌, ◌<◌, ◌≤◌, cond, ◌&&◌, ◌⊎◌, List, nat_le, nat_lt}
+use Rattle.std.specs.Prelude.{◌≡◌, ℕ, if◌then◌else◌, Option, Some, None, ◌+◌, ◌-◌, ◌*◌, ◌/◌, ◌%◌, ◌<◌, ◌≤◌, ◌&&◌, ◌⊎◌, List, nat_le, nat_lt}
 use Rattle.std.proofs.Common.{inl, inr, arith}
 use Rattle.std.proofs.Math.Arith.{digits_lt}
 use Rattle.std.proofs.lemmas.Bool.Decides.{nat_tests}
@@ -11,7 +11,7 @@ use Rattle.book.specs.Machines.{Machine, Marks, Lawful, LawfulMarks, selecting, 
 
 -- the product of the widths, or 0 if that exceeds the limit
 abbrev pub both_width : ℕ → ℕ → ℕ
-both_width v w = cond (nat_le (v * w) most_states) (v * w) 0
+both_width v w = if nat_le (v * w) most_states then v * w else 0
 
 -- the state whose parts are a and b, where the second part has w states
 abbrev pub joined : ℕ → ℕ → ℕ → ℕ
@@ -23,17 +23,17 @@ parts_of v w s = if nat_lt s (both_width v w) then Some (s / w, s % w) else None
 
 -- two answers to a question about a state and a tag, as one
 abbrev pub by_parts : ℕ → ℕ → (ℕ → ℕ → ℕ) → (ℕ → ℕ → ℕ) → ℕ → ℕ → ℕ
-by_parts v w f g s t = cond (nat_lt s (both_width v w)) (joined w (f (s / w) t) (g (s % w) t)) 0
+by_parts v w f g s t = if nat_lt s (both_width v w) then joined w (f (s / w) t) (g (s % w) t) else 0
 
 -- It goes part by part, and accepts if both parts do.
 abbrev pub both : Machine → Machine → Machine
 both m n =
     record {
       width = both_width m.width n.width;
-      start = cond (nat_lt 0 (both_width m.width n.width)) (joined n.width m.start n.start) 0;
+      start = if nat_lt 0 (both_width m.width n.width) then joined n.width m.start n.start else 0;
       enter = by_parts m.width n.width m.enter n.enter;
-      back = λ s q t. cond (nat_lt s (both_width m.width n.width) && nat_lt q (both_width m.width n.width))
-          (joined n.width (m.back (s / n.width) (q / n.width) t) (n.back (s % n.width) (q % n.width) t)) 0;
+      back = λ s q t. if nat_lt s (both_width m.width n.width) && nat_lt q (both_width m.width n.width)
+          then joined n.width (m.back (s / n.width) (q / n.width) t) (n.back (s % n.width) (q % n.width) t) else 0;
       accepts = λ s. nat_lt s (both_width m.width n.width) && (m.accepts (s / n.width) && n.accepts (s % n.width));
     }
 

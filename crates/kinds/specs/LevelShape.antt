@@ -1,5 +1,5 @@
 -- The level shape: its meaning, its rules of range, and its law.
-use Rattle.std.specs.Prelude.{ℕ, ◌+◌, ◌≤◌, Bool, cond, ◌&&◌, List, Decides, ◌==◌, nat_le, nat_lt}
+use Rattle.std.specs.Prelude.{ℕ, ◌+◌, ◌≤◌, Bool, if◌then◌else◌, ◌&&◌, List, Decides, ◌==◌, nat_le, nat_lt}
 use Rattle.std.proofs.Common.{arith}
 use Rattle.std.proofs.lemmas.Bool.Decides.{nat_tests}
 use Rattle.book.specs.Limits.{tags, most_depth}
@@ -20,8 +20,8 @@ level_machine d =
     record {
       width = d + 2;
       start = 0;
-      enter = λ s t. cond (nat_lt s (d + 2) && nat_lt t tags) (cond (nat_lt s (d + 1)) (s + 1) (d + 1)) 0;
-      back = λ s q t. cond (nat_lt s (d + 2) && (nat_lt q (d + 2) && nat_lt t tags)) (cond (q == d + 1) (d + 1) s) 0;
+      enter = λ s t. if nat_lt s (d + 2) && nat_lt t tags then (if nat_lt s (d + 1) then s + 1 else d + 1) else 0;
+      back = λ s q t. if nat_lt s (d + 2) && (nat_lt q (d + 2) && nat_lt t tags) then (if q == d + 1 then d + 1 else s) else 0;
       accepts = λ s. nat_le s d;
     }
 

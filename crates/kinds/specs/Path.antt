@@ -32,10 +32,10 @@ abbrev pub path_right : List Step → Bool
 path_right ss = nat_le 1 (length ss) && (nat_le (length ss) most_steps && steps_right ss)
 
 abbrev pub axis_of : ℕ → Axis
-axis_of a = cond (a == 0) Child Descendant
+axis_of a = if a == 0 then Child else Descendant
 
 abbrev pub test_of : ℕ → TagTest
-test_of t = cond (t == 255) Any (Only t)
+test_of t = if t == 255 then Any else Only t
 
 -- the step that the numbers mean
 abbrev pub step_of : Step → PathStep
@@ -104,14 +104,16 @@ path_machine steps =
     record {
       width = 2 ^ length steps + 2;
       start = 1;
-      enter = λ s t. cond (nat_lt s (2 ^ length steps + 2) && nat_lt t tags) (cond (nat_lt s (2 ^ length steps)) (enter_set steps s t) s) 0;
-      back = λ s q t. cond (nat_lt s (2 ^ length steps + 2) && (nat_lt q (2 ^ length steps + 2) && nat_lt t tags)) (cond (nat_lt q (2 ^ length steps)) s q) 0;
+      enter = λ s t. if nat_lt s (2 ^ length steps + 2) && nat_lt t tags then (if nat_lt s (2 ^ length steps) then enter_set steps s t else s) else 0;
+      back = λ s q t. if nat_lt s (2 ^ length steps + 2) && (nat_lt q (2 ^ length steps + 2) && nat_lt t tags) then (if nat_lt q (2 ^ length steps) then s else q) else 0;
       accepts = λ s. (s == hit (length steps));
     }
 
 abbrev pub path_marks : List PathStep → Marks
 path_marks steps s t =
-    cond (nat_lt s (2 ^ length steps + 2) && nat_lt t tags) (cond (nat_lt s (2 ^ length steps)) (cond (matches steps s t) (hit (length steps)) (miss (length steps))) s) 0
+    if nat_lt s (2 ^ length steps + 2) && nat_lt t tags
+    then (if nat_lt s (2 ^ length steps) then (if matches steps s t then hit (length steps) else miss (length steps)) else s)
+    else 0
 
 -- Rules of range --------------------------------------------------------------------------------------------------
 

@@ -2,7 +2,7 @@
 ghost use Rattle.std.specs.Prelude.{◌≡◌, ◌^◌, ◌<◌, ◌≤◌, true, false, ◌||◌, map, length, take, MatchResult};
 ghost use Rattle.book.specs.Limits.{most_steps};
 ghost use Rattle.book.specs.declared.fault.BookFault.TheVariants.{PathSteps};
-ghost use Rattle.kinds.specs.Path.{steps_right, path_right, step_of, step_from, steps_of, descends, passes, member, keeps, adds, enter_set, matches, path_machine, path_marks, few_steps, path_lawful, path_marks_lawful, PathSelects};
+ghost use Rattle.kinds.specs.Path.{steps_right, path_right, step_of, step_from, steps_of, descends, fits, member, keeps, adds, enter_set, matches, path_machine, path_marks, few_steps, path_lawful, path_marks_lawful, PathSelects};
 
 use book::fault::BookFault;
 use book::limits::{MOST_STEPS, TAGS};
@@ -74,7 +74,7 @@ impl PathStep {
     }
 
     fn fits(self, tag: u8) -> bool
-        ensures { result ≡ passes self.tag tag }
+        ensures { result ≡ fits self tag }
     {
         match self.tag {
             TagTest::Any => true,
