@@ -1,5 +1,6 @@
 // The whole report on a book file.
-ghost use Rattle.std.specs.Prelude.{◌≡◌, ◌++◌, IfOk, OnOk};
+ghost use Rattle.std.specs.Prelude.{◌≡◌, ◌++◌, IfOk, IsSome, OnOk};
+ghost use Rattle.book.specs.Faults.{fault_place};
 ghost use Rattle.book_file.specs.Parts.{file_of};
 ghost use Rattle.book_file.specs.Table.{table_machine};
 ghost use Rattle.book_report.specs.Reach.{Shown};
@@ -25,13 +26,16 @@ fn add_file(page: &mut Page, file: &BookFile<'_>) -> Result<(), AllocError>
     add_reach(page, book)
 }
 
+// The line of a file's fault, which has a place.
 fn add_fault(page: &mut Page, fault: BookFault) -> Result<(), AllocError>
+    requires { IsSome (fault_place fault) }
     ensures { OnOk result (page.new ≡ page.old ++ fault_line fault) }
 {
-    page.add_refusal(fault.number(), fault.place().unwrap_or(0))
+    writeln!(page, "{fault}")
 }
 
 // The report on the book file in these bytes.
+#[tactic(auto, using(crate::proofs::Placed::fault_placed))]
 pub fn report_on(heap: Global, bytes: &[u8]) -> Result<Report<BookFault>, AllocError>
     ensures { IfOk result (Reports bytes.now) }
 {

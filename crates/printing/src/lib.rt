@@ -49,7 +49,7 @@ impl Page {
         *self.bytes.allocator()
     }
 
-    // What `write!` calls.
+    // What `write!` calls. As in a `String`, an error of the text's own `fmt` counts as want of memory.
     pub fn write_fmt<D: Display + Drop>(&mut self, text: D) -> Result<(), AllocError>
         ensures { OnOk result (IfSome (D.output text) (λ bs. self.new ≡ self.old ++ bs)) }
     {
