@@ -6,3 +6,4 @@ mod TablesRead
 mod Placed
 mod WasWritten
 mod Written
+mod OwnTables

@@ -5,3 +5,4 @@ pub mod Names
 pub mod Parts
 pub mod Books
 pub mod Ranges
+pub mod Answering

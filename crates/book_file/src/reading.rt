@@ -2,6 +2,7 @@
 ghost use Rattle.std.specs.Prelude.{◌≡◌, ◌<◌, length, slice_index, Ok, IfOk};
 ghost use Rattle.book.specs.declared.fault.BookFault.TheVariants.{HeaderNumber};
 ghost use Rattle.name_bytes.specs.Names.{between};
+ghost use Rattle.book_file.specs.Answering.{Answering};
 ghost use Rattle.book_file.specs.Files.{file_with, given, header, reading};
 ghost use Rattle.book_file.specs.Laws.{WrittenOnce};
 ghost use Rattle.book_file.specs.Names.{listed};
@@ -96,10 +97,11 @@ fn file_with<'a>(header: Header, tables: Tables<'a>, names: Names<'a>) -> BookFi
 
 // The book file in these bytes, or its first fault: that of the header, then of the tables, which are looked at only
 // where all are whole, then of the names. What it says of the bytes: from which file they were written, or that they
-// were written from none.
+// were written from none; and of a file, that its book answers from its own tables.
 pub fn read_book<'a>(bytes: &'a [u8]) -> Result<BookFile<'a>, BookFault>
     ensures value { read_file result ≡ reading bytes.now }
     ensures written { WrittenOnce bytes.now (read_file result) }
+    ensures answers { IfOk result Answering }
 {
     let header = read_header(bytes)?;
     if bytes.len() < HEADER + header.tables() {

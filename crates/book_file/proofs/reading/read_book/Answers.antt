@@ -4,6 +4,7 @@ use Rattle.book.specs.declared.fault.BookFault.{BookFault}
 use Rattle.book_file.specs.Files.{File, reading, tables_at, tables_size}
 use Rattle.book_file.specs.Parts.{read_file, rows_of}
 use Rattle.book_file.proofs.FileRead.{file_read, names_fault, tables_fault}
+use Rattle.book_file.proofs.OwnTables.{own_tables}
 use Rattle.book_file.proofs.Written.{written}
 use Rattle.book_file.proofs.reading.read_book.Goals as goal
 
@@ -16,7 +17,7 @@ returns-in_err-tables c =
     let value : read_file c.from_residual-in_err-tables.result ≡ reading bs =
     rw (p.1, p.2)
     (tables_fault bs h c.in_ok-header.ensures.value whole c.in_err-tables.field-0.0 (c.in_err-tables.ensures.value ∙ ap (tables_at h 10) c.split_at.ensures.back)) in
-    record { value = value; written = written bs _ value }
+    record { value = value; written = written bs _ value; answers = own_tables c.from_residual-in_err-tables.result }
 
 pub returns-in_err-names : goal.returns-in_err-names
 returns-in_err-names c =
@@ -31,7 +32,7 @@ returns-in_err-names c =
     (names_fault bs h c.in_ok-header.ensures.value whole (rows_of c.in_ok-tables.tables)
     (tables.value ∙ ap (tables_at h 10) behind) c.tables-2.new.self.at c.tables-2.new.self.bytes.now tables.rest.1 (tables.rest.0 ∙ ap (drop (tables_size h)) behind)
     c.in_err-names.field-0.0 c.in_err-names.ensures) in
-    record { value = value; written = written bs _ value }
+    record { value = value; written = written bs _ value; answers = own_tables c.from_residual-in_err-names.result }
 
 pub returns : goal.returns
 returns c =
@@ -45,4 +46,4 @@ returns c =
     ∙ file_read bs h c.in_ok-header.ensures.value whole (rows_of c.in_ok-tables.tables)
     (tables.value ∙ ap (tables_at h 10) behind) c.tables-2.new.self.at c.tables-2.new.self.bytes.now tables.rest.1 (tables.rest.0 ∙ ap (drop (tables_size h)) behind)
     _ c.in_ok-names.ensures in
-    record { value = value; written = written bs _ value }
+    record { value = value; written = written bs _ value; answers = own_tables (Ok c.file_with.result) }
