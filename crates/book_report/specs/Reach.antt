@@ -5,6 +5,10 @@ use Rattle.book.specs.Machines.{Machine}
 use Rattle.ready.specs.Dead.{Useless}
 use Rattle.ready.specs.Rounds.{RowsLead}
 
+-- whatever a test answers of a state is what `passes` says of it
+abbrev pub Computes : (ℕ → Bool → Type 0) → (ℕ → Bool) → Type 0
+Computes post passes = (k : ℕ) (b : Bool) → post k b → b ≡ passes k
+
 -- the states below the width that pass a test
 abbrev pub states_that : (ℕ → Bool) → ℕ → List ℕ
 states_that test width = filter test (range_with_len 0 width)

@@ -1,6 +1,6 @@
 // States as they are printed.
 ghost use Rattle.std.specs.Prelude.{◌≡◌, ℕ, Bool, ◌++◌, Some, IfOk, OnOk};
-ghost use Rattle.book_report.specs.Reach.{state_words, states_line, states_that, words_or_none};
+ghost use Rattle.book_report.specs.Reach.{Computes, state_words, states_line, states_that, words_or_none};
 
 use printing::Page;
 use std::alloc::{AllocError, Global};
@@ -14,7 +14,7 @@ pub(crate) fn states_that<F: Fn(u16) -> bool + Drop>(
     test: F,
 ) -> Result<Vec<u16>, AllocError>
     requires { F.IsAlwaysCallable test }
-    ensures { (passes : ℕ → Bool) → ((k : ℕ) (b : Bool) → F.post test k b → b ≡ passes k) → IfOk result (λ v. v.items ≡ states_that passes width) }
+    ensures { (passes : ℕ → Bool) → Computes (F.post test) passes → IfOk result (λ v. v.items ≡ states_that passes width) }
 {
     (0..width).filter(|state| test(*state)).collect(heap)
 }
@@ -27,7 +27,7 @@ pub(crate) fn add_states<F: Fn(u16) -> bool + Drop>(
     test: F,
 ) -> Result<(), AllocError>
     requires { F.IsAlwaysCallable test }
-    ensures { (passes : ℕ → Bool) → ((k : ℕ) (b : Bool) → F.post test k b → b ≡ passes k) → OnOk result (page.new ≡ page.old ++ states_line label.now passes width) }
+    ensures { (passes : ℕ → Bool) → Computes (F.post test) passes → OnOk result (page.new ≡ page.old ++ states_line label.now passes width) }
 {
     let states = states_that(page.heap(), width, test)?;
     let states = OrNone(states.as_slice());
