@@ -10,7 +10,7 @@ use Rattle.book_file.specs.Names.{name_of}
 use Rattle.book_file.specs.Table.{Table, table_machine}
 use Rattle.book_file.specs.declared.header.Kind.{Kind}
 use Rattle.book_file.specs.declared.header.Kind.TheVariants.{Selecting, Shape}
-use Rattle.book_report.specs.Reach.{Shown, states_that, words_or_none}
+use Rattle.book_report.specs.Reach.{Shown, states_line}
 use Rattle.printing.specs.Lines.{fact_line, refusal_line}
 use Rattle.printing.specs.declared.Report.{Report}
 
@@ -20,14 +20,14 @@ kind_line Selecting = codes "kind selecting\n"
 
 -- the states whose byte is 1
 abbrev pub accepting_line : List ℕ → List ℕ
-accepting_line accept = codes "accepting" ++ (words_or_none (states_that (λ k. slice_index accept k == 1) (length accept)) ++ codes "\n")
+accepting_line accept = states_line (codes "accepting") (λ k. slice_index accept k == 1) (length accept)
 
 -- a tag and its name
 abbrev pub name_line : ℕ → Option (List ℕ) → List ℕ
 name_line tag None = []
 name_line tag (Some name) = codes "tag " ++ (decimal tag ++ (codes " " ++ (name ++ codes "\n")))
 
--- for each tag its line, of tag 1 and so many more as the names are given
+-- the lines of tags 1 and on, below the number of columns
 abbrev pub name_lines : ℕ → List (List ℕ) → List ℕ
 name_lines columns names = flat_map (λ tag. name_line tag (name_of names tag)) (range_with_len 1 (columns - 1))
 

@@ -2,9 +2,9 @@
 ghost use Rattle.std.specs.Prelude.{◌≡◌, ◌-◌, ◌++◌, OnOk};
 ghost use Rattle.book_file.specs.Books.{tables_in};
 ghost use Rattle.book_file.specs.Names.{listed, name_of};
-ghost use Rattle.book_report.specs.Lines.{accepting_line, name_line, name_lines, number_lines, shape_lines};
+ghost use Rattle.book_report.specs.Lines.{name_line, name_lines, number_lines, shape_lines};
 
-use crate::states::{OrNone, states_that};
+use crate::states::add_states;
 use book::shape_book::ShapeBook;
 use book_file::names::Names;
 use book_file::table::TableBook;
@@ -25,15 +25,6 @@ fn add_numbers(page: &mut Page, book: &TableBook<'_>) -> Result<(), AllocError>
         page,
         "states {states}\ntree states {trees}\ntags {columns}\nstart {start}"
     )
-}
-
-// The states that accept, or that there is none.
-fn add_accepting(page: &mut Page, book: &TableBook<'_>) -> Result<(), AllocError>
-    ensures { OnOk result (page.new ≡ page.old ++ accepting_line book.now.accept.now) }
-{
-    let accepting = states_that(page.heap(), book.states, |state| book.accepts(state))?;
-    let accepting = OrNone(accepting.as_slice());
-    writeln!(page, "accepting{accepting}")
 }
 
 // A tag and its name, where it has one.
@@ -66,6 +57,6 @@ pub(crate) fn add_shape(
     ensures { OnOk result (page.new ≡ page.old ++ shape_lines (tables_in book.now) (listed names.now)) }
 {
     add_numbers(page, book)?;
-    add_accepting(page, book)?;
+    add_states(page, "accepting", book.states, |state| book.accepts(state))?;
     add_names(page, book, names)
 }

@@ -2,14 +2,12 @@
 ghost use Rattle.std.specs.Prelude.{◌≡◌, ◌++◌, OnOk};
 ghost use Rattle.ready.specs.Pairs.{lies};
 ghost use Rattle.ready.specs.Rounds.{RowsLead};
-ghost use Rattle.ready.specs.Sets.{has};
-ghost use Rattle.book_report.specs.Reach.{Shown, row_line, row_lines, useless_line};
+ghost use Rattle.book_report.specs.Reach.{Shown, row_line, row_lines};
 
-use crate::states::{OrNone, States, states_that};
+use crate::states::{States, add_states, states_that};
 use book::shape_book::ShapeBook;
 use printing::Page;
 use ready::ready::{Ready, make_ready};
-use ready::state_set::StateSet;
 use std::alloc::AllocError;
 
 // A state and the states that rows of whole items lead to from it.
@@ -35,15 +33,6 @@ fn add_rows<B: ShapeBook>(page: &mut Page, ready: &Ready<B>, width: u16) -> Resu
     Ok(())
 }
 
-// The states from which no way on is accepted, or that there is none.
-fn add_useless(page: &mut Page, useless: &StateSet, width: u16) -> Result<(), AllocError>
-    ensures { OnOk result (page.new ≡ page.old ++ useless_line (has useless.now.words) width) }
-{
-    let useless = states_that(page.heap(), width, |state| useless.contains(state))?;
-    let useless = OrNone(useless.as_slice());
-    writeln!(page, "never accepting{useless}")
-}
-
 // Where the states of a book lead, which is made ready for that.
 pub(crate) fn add_reach<B: ShapeBook + Drop>(page: &mut Page, book: B) -> Result<(), AllocError>
     ensures { OnOk result (Shown (B.ShapeBook.machine book) page.old page.new) }
@@ -51,5 +40,12 @@ pub(crate) fn add_reach<B: ShapeBook + Drop>(page: &mut Page, book: B) -> Result
     let ready = make_ready(book);
     let width = ready.book().width();
     add_rows(page, &ready, width)?;
-    add_useless(page, &ready.useless_states(), width)
+    // the states from which no way on is accepted
+    let useless = ready.useless_states();
+    add_states(
+        page,
+        "never accepting",
+        width,
+        |state| useless.contains(state),
+    )
 }

@@ -1,7 +1,8 @@
 // States as they are printed.
-ghost use Rattle.std.specs.Prelude.{◌≡◌, ℕ, Bool, Some, IfOk};
-ghost use Rattle.book_report.specs.Reach.{state_words, states_that, words_or_none};
+ghost use Rattle.std.specs.Prelude.{◌≡◌, ℕ, Bool, ◌++◌, Some, IfOk, OnOk};
+ghost use Rattle.book_report.specs.Reach.{Computes, state_words, states_line, states_that, words_or_none};
 
+use printing::Page;
 use std::alloc::{AllocError, Global};
 use std::fmt;
 use std::fmt::Display;
@@ -13,9 +14,24 @@ pub(crate) fn states_that<F: Fn(u16) -> bool + Drop>(
     test: F,
 ) -> Result<Vec<u16>, AllocError>
     requires { F.IsAlwaysCallable test }
-    ensures { (passes : ℕ → Bool) → ((k : ℕ) (b : Bool) → F.post test k b → b ≡ passes k) → IfOk result (λ v. v.items ≡ states_that passes width) }
+    ensures { (passes : ℕ → Bool) → Computes (F.post test) passes → IfOk result (λ v. v.items ≡ states_that passes width) }
 {
     (0..width).filter(|state| test(*state)).collect(heap)
+}
+
+// A label and the states below the width that pass a test, or that there is none.
+pub(crate) fn add_states<F: Fn(u16) -> bool + Drop>(
+    page: &mut Page,
+    label: &str,
+    width: u16,
+    test: F,
+) -> Result<(), AllocError>
+    requires { F.IsAlwaysCallable test }
+    ensures { (passes : ℕ → Bool) → Computes (F.post test) passes → OnOk result (page.new ≡ page.old ++ states_line label.now passes width) }
+{
+    let states = states_that(page.heap(), width, test)?;
+    let states = OrNone(states.as_slice());
+    writeln!(page, "{label}{states}")
 }
 
 // Each behind a space.
@@ -24,7 +40,7 @@ pub(crate) struct States<'a>(pub(crate) &'a [u16]);
 
 // The same, or the word none.
 #[derive(Clone, Copy)]
-pub(crate) struct OrNone<'a>(pub(crate) &'a [u16]);
+struct OrNone<'a>(&'a [u16]);
 
 impl Display for States<'_> {
     ghost output = { λ s. Some (state_words s.0.now) };
