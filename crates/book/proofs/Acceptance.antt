@@ -17,8 +17,7 @@ use Rattle.book.proofs.Steps.{nest_more, opened_more}
 use Rattle.book.proofs.ItemLists.{counts_most}
 use Rattle.book.proofs.Checks.{unmet, accepts, watch_unmet, watch_accepts, shared_unmet, unmet_sound}
 use Rattle.book.proofs.History.{sound_none, events_keep, watched_keep}
-use Rattle.book.proofs.Exchanges.{cons_not_nil}
-use Rattle.book.proofs.Telling.{open_items, same_head}
+use Rattle.book.proofs.Telling.{open_items}
 
 -- Numbers ---------------------------------------------------------------------------------------------------------
 
@@ -71,8 +70,8 @@ module _ (m : Machine) (h : List Event) (some : 1 ≤ m.width) (ts : List ℕ) (
   close_unmet t us is TooDeep = λ y. y
   close_unmet t us is TooMany = λ y. y
   close_unmet t us is HoldFull = λ y. y
-  close_unmet t us is NoneOpen = λ y. cons_not_nil t us (sym is ∙ same_open ts [] (sym at ∙ y))
-  close_unmet t us is OtherTag = λ y. y.3 (same_head y.0 t y.1 us (same_open (y.0 ∷ y.1) ts (sym y.2 ∙ at) ∙ is))
+  close_unmet t us is NoneOpen = λ y. cc
+  close_unmet t us is OtherTag = λ y. y.3 (cc y.2)
   close_unmet t us is StillOpen = λ y. y
 
   pub end_unmet : ts ≡ [] → (r : Refusal) → SharedMet m h End r → ⊥
@@ -85,7 +84,7 @@ module _ (m : Machine) (h : List Event) (some : 1 ≤ m.width) (ts : List ℕ) (
   end_unmet is HoldFull = λ y. y
   end_unmet is NoneOpen = λ y. y
   end_unmet is OtherTag = λ y. y
-  end_unmet is StillOpen = λ y. cons_not_nil y.0 y.1 (same_open (y.0 ∷ y.1) ts (sym y.2 ∙ at) ∙ is)
+  end_unmet is StillOpen = λ y. cc y.2
 
 -- what unmet lines say of an open, a close and an end
 abbrev Unmet : Machine → List Event → Event → Type 0
@@ -193,7 +192,7 @@ calls_are_refused m h room = record {
       (inr ((λ z. omega arith), inr (shallow m.shape h ready.0 ts ready.2 t few, inr ((λ z. omega arith), inl ((n, c, (let z : 128 < n = omega arith in z)), refl)))));
   none_open = λ t ready. past_list [] ready (Close t) NoneOpen (inr ((λ z. z), inr ((λ z. z), inr ((λ z. z), inr ((λ z. z), inl (ready.2, refl))))));
   other_tag = λ t u ts ready ne. past_list (u ∷ ts) ready (Close t) OtherTag
-      (inr ((λ z. z), inr ((λ z. z), inr ((λ z. z), inr ((λ z. z), inr ((λ z. cons_not_nil u ts (same_open (u ∷ ts) [] (sym ready.2 ∙ z))), inl ((u, ts, ready.2, ne), refl)))))));
+      (inr ((λ z. z), inr ((λ z. z), inr ((λ z. z), inr ((λ z. z), inr ((λ z. cc), inl ((u, ts, ready.2, ne), refl)))))));
   still_open = λ u ts ready. past_list (u ∷ ts) ready End StillOpen
       (inr ((λ z. z), inr ((λ z. z), inr ((λ z. z), inr ((λ z. z), inr ((λ z. z), inr ((λ z. z), inl ((u, ts, ready.2), refl))))))));
 }
@@ -214,7 +213,7 @@ watch_calls_are_refused m h = record {
       (inr ((λ z. omega arith), inr (shallow m h ready.0 ts ready.1 t few, inl (many, refl))));
   none_open = λ t ready. past_end [] ready (Close t) NoneOpen (inr ((λ z. z), inr ((λ z. z), inr ((λ z. z), inl (ready.1, refl)))));
   other_tag = λ t u ts ready ne. past_end (u ∷ ts) ready (Close t) OtherTag
-      (inr ((λ z. z), inr ((λ z. z), inr ((λ z. z), inr ((λ z. cons_not_nil u ts (same_open (u ∷ ts) [] (sym ready.1 ∙ z))), inl ((u, ts, ready.1, ne), refl))))));
+      (inr ((λ z. z), inr ((λ z. z), inr ((λ z. z), inr ((λ z. cc), inl ((u, ts, ready.1, ne), refl))))));
   still_open = λ u ts ready. past_end (u ∷ ts) ready End StillOpen
       (inr ((λ z. z), inr ((λ z. z), inr ((λ z. z), inr ((λ z. z), inr ((λ z. z), inl ((u, ts, ready.1), refl)))))));
 }

@@ -1,5 +1,5 @@
 -- The table of checks: one outcome a call, the topmost line, and that an accepted call breaks no rule.
-use Rattle.std.proofs.Common.{◌≡◌, ℕ, Bool, true, false, cond, eqb, ltb, ◌⊎◌, ◌↔◌, List, [], ◌∷◌, ◌++◌, sym, refl, ap, ◌∙◌, subst, inl, inr, arith}
+use Rattle.std.proofs.Common.{◌≡◌, ℕ, Bool, true, false, cond, eqb, ltb, ◌⊎◌, ◌↔◌, List, [], ◌∷◌, ◌++◌, sym, refl, ap, ◌∙◌, subst, inl, inr}
 use Rattle.std.proofs.lemmas.Bool.{ltb-false, eqb-false}
 use Rattle.book.specs.Limits.{tags}
 use Rattle.book.specs.declared.event.Event.{Event}
@@ -8,7 +8,7 @@ use Rattle.book.specs.declared.answer.Refusal.{Refusal}
 use Rattle.book.specs.declared.answer.Refusal.TheVariants.{NoStates, Ended, ShortList, BadTag, TooDeep, TooMany, HoldFull, NoneOpen, OtherTag, StillOpen}
 use Rattle.book.specs.Catalogue.{Nest, within, over, broken, after, nest, Sound}
 use Rattle.book.specs.Machines.{Machine, Selecting}
-use Rattle.book.specs.Checks.{scan_lines, watch_lines, SharedMet, Met, NoneMet, Topmost, Accepts, WatchAccepts, OneOutcomeOf, OneOutcome, MetBelowUnmet, RefusedByTopmost, AcceptedStaysSound}
+use Rattle.book.specs.Checks.{scan_lines, watch_lines, SharedMet, Met, NoneMet, Topmost, Accepts, WatchAccepts, OneOutcomeOf, OneOutcome, MetBelowUnmet, RefusedByTopmost}
 use Rattle.book.proofs.Steps.{nest_more}
 
 -- Any table -------------------------------------------------------------------------------------------------------
@@ -118,7 +118,7 @@ watch_accepts m h e none = none_met (SharedMet m h e) watch_lines none
 -- Accepted calls break no rule ------------------------------------------------------------------------------------
 
 failed : (c : Bool) (ts : List ℕ) → cond c (within ts) broken ≡ broken → c ≡ false
-failed true ts p = let z : ◌≡◌ {A = ℕ} 0 1 = cc in absurd (omega arith)
+failed true ts p = cc
 failed false ts p = refl
 
 pub unmet_sound : (m : Machine) (h : List Event) (e : Event) → Sound h → ((r : Refusal) → SharedMet m h e r → ⊥) → Sound (h ++ (e ∷ []))
@@ -128,7 +128,7 @@ unmet_sound m h e s none b = on (nest h) refl e none (sym (nest_more h e) ∙ b)
     at_place (within ts) at (Open t) none b = none BadTag (ltb-false t tags (failed (ltb t tags) (t ∷ ts) b))
     at_place (within []) at (Close t) none b = none NoneOpen at
     at_place (within (u ∷ ts)) at (Close t) none b = none OtherTag (u, ts, at, eqb-false u t (failed (eqb u t) ts b))
-    at_place (within []) at End none b = let z : ◌≡◌ {A = ℕ} 0 1 = cc in omega arith
+    at_place (within []) at End none b = cc
     at_place (within (u ∷ ts)) at End none b = none StillOpen (u, ts, at)
     at_place over at e none b = none Ended at
     at_place broken at e none b = s at
@@ -141,6 +141,3 @@ accepted_sound m h room e s ok = unmet_sound m.shape h e s (shared_unmet m h roo
 
 pub watch_accepted_sound : (m : Machine) (h : List Event) (e : Event) → Sound h → WatchAccepts m h e → Sound (h ++ (e ∷ []))
 watch_accepted_sound m h e s ok = unmet_sound m h e s (watch_unmet m h e ok)
-
-pub accepted_stays_sound : AcceptedStaysSound
-accepted_stays_sound = (accepted_sound, watch_accepted_sound)

@@ -18,7 +18,8 @@ use Rattle.book.proofs.Earliest.{due_opened, due_on, not_two, not_none, right_ru
 use Rattle.book.proofs.ItemLists.{in_left, in_right, in_cases, in_or_not, lists_alike, mem, mem_in, in_mem, tally, one_if, tally_rising, tally_three, tally_once, rising_once, once_append}
 use Rattle.book.proofs.Checks.{accepted_sound}
 use Rattle.book.proofs.History.{sound_none}
-use Rattle.book.proofs.Exchanges.{map_append}
+use Rattle.std.proofs.Math.Seq.{take-append_seam}
+use Rattle.std.proofs.lemmas.List.{map-append}
 
 abbrev pub plus : List Event → Event → List Event
 plus h e = h ++ (e ∷ [])
@@ -33,10 +34,6 @@ just_newly m h e s i = (
 )
 
 -- The first records of a list -------------------------------------------------------------------------------------
-
-take_front : {A : Type 0} (xs ys : List A) → take (length xs) (xs ++ ys) ≡ xs
-take_front [] ys = refl
-take_front (x ∷ xs) ys = ap (λ (r : List _). x ∷ r) (take_front xs ys)
 
 pub items_back : (h : List Event) (items : List ℕ) → map item_of (map (order h) items) ≡ items
 items_back h [] = refl
@@ -55,11 +52,11 @@ module _ (Kind : ℕ → Type 0) (now : List Event) (given : List Order) (x : Ex
       let items : List ℕ = o.0 in
       ap (λ (k : ℕ). take k x.later) (o.2 ∙ sym (length-map items (order now)))
       ∙ ap (take (length (map (order now) items))) o.3
-      ∙ take_front (map (order now) items) (drop (length items) x.before)
+      ∙ take-append_seam (map (order now) items) (drop (length items) x.before)
 
   pub items_so_far : map item_of (given ++ take n x.later) ≡ map item_of given ++ o.0
   items_so_far =
-      map_append item_of given (take n x.later)
+      map-append item_of given (take n x.later)
       ∙ ap (λ (r : List ℕ). map item_of given ++ r) (ap (map item_of) first_records ∙ items_back now o.0)
 
   pub orders_so_far : length (given ++ take n x.later) ≡ length given + n

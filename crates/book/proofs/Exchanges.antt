@@ -1,22 +1,16 @@
 -- Promises over lists of exchanges: one exchange more, from exchange to exchange, and that the calls fix them.
-use Rattle.std.proofs.Common.{◌≡◌, ℕ, ◌⊎◌, List, [], ◌∷◌, ◌++◌, map, sym, refl, ap, ◌∙◌, subst, inl, inr, append_assoc, append-nil, arith}
+use Rattle.std.proofs.Common.{◌≡◌, ◌⊎◌, List, [], ◌∷◌, ◌++◌, map, sym, refl, ap, ◌∙◌, subst, inl, inr, append_assoc, append-nil}
+use Rattle.std.proofs.lemmas.List.{map-append}
 use Rattle.book.specs.declared.event.Event.{Event}
 
 -- Lists -----------------------------------------------------------------------------------------------------------
-
-pub map_append : {A B : Type 0} (f : A → B) (xs ys : List A) → map f (xs ++ ys) ≡ map f xs ++ map f ys
-map_append f [] ys = refl
-map_append f (x ∷ xs) ys = ap (λ (r : List _). f x ∷ r) (map_append f xs ys)
-
-pub cons_not_nil : {A : Type 0} (x : A) (xs : List A) → x ∷ xs ≡ [] → ⊥
-cons_not_nil x xs e = let z : ◌≡◌ {A = ℕ} 0 1 = cc in omega arith
 
 -- where an element stands in a list with one more at its end: there, or before it
 pub split_last : {A : Type 0} (xs ys zs : List A) (x y : A) → xs ++ (x ∷ []) ≡ ys ++ (y ∷ zs)
     → ((xs ≡ ys) × (x ≡ y)) ⊎ ((ws : List A) × (xs ≡ ys ++ (y ∷ ws)))
 split_last [] [] zs x y e = inl (refl, (cc))
-split_last [] (u ∷ []) zs x y e = absurd (cons_not_nil y zs (cc))
-split_last [] (u ∷ (v ∷ ys)) zs x y e = absurd (cons_not_nil v (ys ++ (y ∷ zs)) (cc))
+split_last [] (u ∷ []) zs x y e = cc
+split_last [] (u ∷ (v ∷ ys)) zs x y e = cc
 split_last (w ∷ xs) [] zs x y e = inr (xs, (cc))
 split_last (w ∷ xs) (u ∷ ys) zs x y e =
     let heads : w ≡ u = cc in
@@ -34,8 +28,8 @@ EachKept {C} {X} so_far call keeps xs = (ys : List X) (x : X) (zs : List X) → 
 
 module _ {C X : Type 0} (so_far : List C → List Event → Type 0) (call : X → C) (keeps : List Event → List X → X → Type 0) where
   pub kept_none : EachKept so_far call keeps []
-  kept_none [] x zs e = absurd (cons_not_nil x zs (sym e))
-  kept_none (y ∷ ys) x zs e = absurd (cons_not_nil y (ys ++ (x ∷ zs)) (sym e))
+  kept_none [] x zs e = cc
+  kept_none (y ∷ ys) x zs e = cc
 
   pub kept_more : (xs : List X) (x : X) (h : List Event) → EachKept so_far call keeps xs → so_far (map call xs) h → keeps h xs x
       → EachKept so_far call keeps (xs ++ (x ∷ []))
@@ -65,7 +59,7 @@ module _ {C X : Type 0} (so_far : List C → List Event → Type 0) (call : X �
       along xs done (x ∷ todo) h kept e at p =
           let r = more done x h at p (kept_at xs done x todo h kept e at) in
           along xs (done ++ (x ∷ [])) todo (next h x) kept (e ∙ sym (append_assoc done (x ∷ []) todo))
-          (subst (λ (l : List C). so_far l (next h x)) (sym (map_append call done (x ∷ []))) r.0) r.1
+          (subst (λ (l : List C). so_far l (next h x)) (sym (map-append call done (x ∷ []))) r.0) r.1
 
       pub through_all : (xs : List X) (h : List Event) → so_far [] h → P [] h → EachKept so_far call keeps xs → (g : List Event) × so_far (map call xs) g × P xs g
       through_all xs h at p kept = along xs [] xs h kept refl at p
@@ -75,8 +69,8 @@ module _ {C X : Type 0} (so_far : List C → List Event → Type 0) (call : X �
       same_from : (xs ys done todo more : List X) → EachKept so_far call keeps xs → EachKept so_far call keeps ys → xs ≡ done ++ todo → ys ≡ done ++ more
           → map asked todo ≡ map asked more → todo ≡ more
       same_from xs ys done [] [] k l a b e = refl
-      same_from xs ys done [] (y ∷ more) k l a b e = absurd (cons_not_nil (asked y) (map asked more) (sym e))
-      same_from xs ys done (x ∷ todo) [] k l a b e = absurd (cons_not_nil (asked x) (map asked todo) e)
+      same_from xs ys done [] (y ∷ more) k l a b e = cc
+      same_from xs ys done (x ∷ todo) [] k l a b e = cc
       same_from xs ys done (x ∷ todo) (y ∷ more) k l a b e =
           let first = k done x todo a in
           let here : x ≡ y = one first.0 done x y (cc) first.2 (kept_at ys done y more first.0 l b first.1) in
@@ -99,7 +93,7 @@ module _ {C X : Type 0} (so_far : List C → List Event → Type 0) (call : X �
         let r = some_from (done ++ (x.0 ∷ [])) calls x.2 in (
           r.0,
           r.1
-              ∙ ap (λ (l : List A). l ++ calls) (map_append asked done (x.0 ∷ []))
+              ∙ ap (λ (l : List A). l ++ calls) (map-append asked done (x.0 ∷ []))
               ∙ append_assoc (map asked done) (asked x.0 ∷ []) calls
               ∙ ap (λ (z : A). map asked done ++ (z ∷ calls)) x.1,
           r.2,

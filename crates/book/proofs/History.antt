@@ -1,5 +1,5 @@
 -- The events that calls bring: there is one list of them at most, and it breaks no rule.
-use Rattle.std.proofs.Common.{◌≡◌, ℕ, List, [], ◌∷◌, ◌++◌, sym, ◌∙◌, subst, inl, inr, arith}
+use Rattle.std.proofs.Common.{◌≡◌, List, [], ◌∷◌, ◌++◌, sym, ◌∙◌, subst, inl, inr}
 use Rattle.book.specs.declared.event.Event.{Event}
 use Rattle.book.specs.declared.answer.Refusal.{Refusal}
 use Rattle.book.specs.Catalogue.{Sound}
@@ -38,7 +38,7 @@ bring_keeps event accepts refuses P keep h (c ∷ cs) g s (inr a) = bring_keeps 
 -- The calls of a scan and of a watch ------------------------------------------------------------------------------
 
 pub sound_none : Sound []
-sound_none p = let z : ◌≡◌ {A = ℕ} 0 1 = cc in omega arith
+sound_none p = cc
 
 abbrev scan_accepts : Selecting → List Event → Call → Type 0
 scan_accepts m h c = Accepts m h c.room c.event

@@ -29,7 +29,7 @@ mem [] i = false
 mem (x ∷ xs) i = eqb i x || mem xs i
 
 pub mem_in : (xs : List ℕ) (i : ℕ) → mem xs i ≡ true → In i xs
-mem_in [] i h = let z : ◌≡◌ {A = ℕ} 0 1 = cc in omega arith
+mem_in [] i h = cc
 mem_in (x ∷ xs) i h = elim (or_cases (eqb i x) (mem xs i) h) [ inl a ↦ inl (eqb-true i x a) | inr b ↦ inr (mem_in xs i b) ]
 
 pub in_mem : (xs : List ℕ) (i : ℕ) → In i xs → mem xs i ≡ true

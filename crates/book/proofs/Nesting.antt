@@ -21,13 +21,13 @@ pub not_from_broken : (e : List Event) → follow after broken e ≡ over → �
 not_from_broken e h = let z : over ≡ broken = sym h ∙ stays_broken e in apart z
   where
     apart : over ≡ broken → ⊥
-    apart p = let w : ◌≡◌ {A = ℕ} 0 1 = cc in omega arith
+    apart p = cc
 
 pub within_not_over : (ts : List ℕ) → within ts ≡ over → ⊥
-within_not_over ts p = let w : ◌≡◌ {A = ℕ} 0 1 = cc in omega arith
+within_not_over ts p = cc
 
 pub within_not_broken : (ts : List ℕ) → within ts ≡ broken → ⊥
-within_not_broken ts p = let w : ◌≡◌ {A = ℕ} 0 1 = cc in omega arith
+within_not_broken ts p = cc
 
 -- after the end nothing may come
 pub over_only_empty : (e : List Event) → follow after over e ≡ over → e ≡ []

@@ -15,7 +15,7 @@ use Rattle.book.specs.PromiseLaws.{with_event, events_of, OpensAt, DueAt, Each, 
 use Rattle.book.specs.Shown.{Exact}
 use Rattle.book.proofs.Nesting.{count_shift}
 use Rattle.book.proofs.ItemLists.{rising_places}
-use Rattle.book.proofs.Exchanges.{map_append}
+use Rattle.std.proofs.lemmas.List.{map-append}
 use Rattle.book.proofs.Earliest.{sound_before, due_opened, due_on, order_right_if_due}
 use Rattle.book.proofs.Checks.{accepted_sound}
 use Rattle.book.proofs.Exact.{exact_none, exact_step, first_records, items_back}
@@ -96,7 +96,7 @@ call_rises m h given x a f j k less last =
     let behind : List Order = drop (length items) x.before in
     let n = f.orders.2 in
     let is : items ++ map item_of behind ≡ map item_of x.later =
-    sym (ap (map item_of) f.orders.3 ∙ map_append item_of (map (order now) items) behind ∙ ap (λ (l : List ℕ). l ++ map item_of behind) (items_back now items)) in
+    sym (ap (map item_of) f.orders.3 ∙ map-append item_of (map (order now) items) behind ∙ ap (λ (l : List ℕ). l ++ map item_of behind) (items_back now items)) in
     subst (λ (l : List ℕ). get_or l j 0 < get_or l k 0) is (rising_places 0 items (map item_of behind) j k f.orders.1.0 less (omega arith))
 
 pub records_rise : RecordsRise

@@ -2,6 +2,7 @@
 use Rattle.std.proofs.Common.{◌≡◌, ℕ, suc, ◌<◌, ◌≤◌, Bool, List, [], ◌∷◌, ◌++◌, map, length, drop, Ok, Err, Result, sym, refl, ap, ◌∙◌, subst, inl, inr, append_assoc, arith, length-append, length-drop}
 use lib.ListN.{length-map}
 use Rattle.std.proofs.lemmas.Bool.{cases_lt}
+use Rattle.std.proofs.Math.Seq.{drop-append_seam}
 use Rattle.book.specs.declared.event.Event.{Event}
 use Rattle.book.specs.declared.event.Event.TheVariants.{Open, Close, End}
 use Rattle.book.specs.declared.answer.Order.{Order}
@@ -118,10 +119,6 @@ fits_list m h given x a ex f k =
     let d = k.orders.2 in
     omega arith
 
-drop_front : {A : Type 0} (xs ys : List A) → drop (length xs) (xs ++ ys) ≡ ys
-drop_front [] ys = refl
-drop_front (x ∷ xs) ys = drop_front xs ys
-
 behind_kept : (m : Selecting) (h : List Event) (given : List Order) (x : Exchange) (a : Totals) → Fulfilled m h given x a
     → drop a.orders x.later ≡ drop a.orders x.before
 behind_kept m h given x a k =
@@ -129,7 +126,7 @@ behind_kept m h given x a k =
     let now : List Event = h ++ (x.call ∷ []) in
     ap (λ (n : ℕ). drop n x.later) (k.orders.2 ∙ sym (length-map items (order now)))
     ∙ ap (drop (length (map (order now) items))) k.orders.3
-    ∙ drop_front (map (order now) items) (drop (length items) x.before)
+    ∙ drop-append_seam (map (order now) items) (drop (length items) x.before)
     ∙ ap (λ (n : ℕ). drop n x.before) (sym k.orders.2)
 
 keeps_length : (m : Selecting) (h : List Event) (given : List Order) (x : Exchange) (a : Result Totals Refusal) → Exact m h given → FewHeld m h

@@ -1,11 +1,10 @@
 -- Which items are opened, and which are selected.
-use Rattle.std.proofs.Common.{◌≡◌, ℕ, Bool, true, ◌&&◌, leb, List, ◌++◌, sym, ap, ◌∙◌, arith}
+use Rattle.std.proofs.Common.{◌≡◌, ℕ, Bool, true, ◌&&◌, leb, List, ◌++◌, ap, ◌∙◌, arith}
 use Rattle.std.proofs.lemmas.Bool.{le-leb, leb-true, and_parts}
 use Rattle.book.specs.declared.event.Event.{Event}
 use Rattle.book.specs.Catalogue.{opened}
 use Rattle.book.specs.Machines.{Selecting, run, marking, selected}
 use Rattle.book.specs.Orders.{Opened}
-use Rattle.book.specs.Runs.{SelectedByOwnRun}
 use Rattle.book.proofs.Nesting.{opened_grows}
 
 pub opened_on : (h e : List Event) (i : ℕ) → Opened h i → Opened (h ++ e) i
@@ -24,9 +23,3 @@ selected_opened m i c s =
     let p = and_parts (leb 1 i && leb i (opened c)) v s in
     let r = and_parts (leb 1 i) (leb i (opened c)) p.0 in
     (leb-true 1 i r.0, leb-true i (opened c) r.1)
-
-pub selected_by_own_run : SelectedByOwnRun
-selected_by_own_run m i c = (
-  λ s. let o = selected_opened m i c s in (o, sym (selected_is m i c o) ∙ s),
-  λ x. selected_is m i c x.0 ∙ x.1,
-)

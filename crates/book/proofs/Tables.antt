@@ -15,7 +15,7 @@ use Rattle.book.proofs.Questions.{every_unless, never_unless}
 -- Some number below n passes --------------------------------------------------------------------------------------
 
 pub some_found : (n : ℕ) (test : ℕ → Bool) → some_below n test ≡ true → (k : ℕ) × (k < n) × (test k ≡ true)
-some_found zero p h = let z : ◌≡◌ {A = ℕ} 0 1 = cc in absurd (omega arith)
+some_found zero p h = cc
 some_found (suc n) p h = elim (or_cases (p n) (some_below n p) h) [ inl a ↦ (n, omega arith, a) | inr b ↦ (let r = some_found n p b in (r.0, (let c = r.1 in omega arith), r.2)) ]
 
 pub found_some : (n : ℕ) (p : ℕ → Bool) (k : ℕ) → k < n → p k ≡ true → some_below n p ≡ true

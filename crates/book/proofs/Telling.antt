@@ -13,11 +13,10 @@ use Rattle.book.specs.Tables.{Fits}
 use Rattle.book.specs.ItemLists.{Lists}
 use Rattle.book.specs.Checks.{scan_lines, watch_lines, SharedMet, Overfull, Met, Accepts, Refuses, WatchAccepts, WatchRefuses}
 use Rattle.book.specs.History.{Bring, event_of, itself, SomeHistory}
-use Rattle.book.proofs.Nesting.{within_not_over, within_not_broken, same_open}
+use Rattle.book.proofs.Nesting.{within_not_over, within_not_broken}
 use Rattle.book.proofs.Steps.{nest_more}
 use Rattle.book.proofs.Earliest.{is_held}
 use Rattle.book.proofs.ItemLists.{listed, counts_same}
-use Rattle.book.proofs.Exchanges.{cons_not_nil}
 use Rattle.book.proofs.Checks.{Told, some_outcome, accepted_sound, watch_accepted_sound}
 use Rattle.book.proofs.History.{sound_none}
 
@@ -31,9 +30,6 @@ less_or_not a b = elim (cases_lt a b) [ inl y ↦ inl y | inr z ↦ inr (λ y. o
 at_most_or_not : (a b : ℕ) → Either (a ≤ b)
 at_most_or_not a b = elim (cases_lt b a) [ inl y ↦ inr (λ z. omega arith) | inr z ↦ inl z ]
 
-pub same_head : (t u : ℕ) (ts us : List ℕ) → t ∷ ts ≡ u ∷ us → t ≡ u
-same_head t u ts us e = cc
-
 -- Where the events stand ------------------------------------------------------------------------------------------
 
 pub is_over : (h : List Event) → Either (nest h ≡ over)
@@ -42,7 +38,7 @@ is_over h = go (nest h)
     go : (n : Nest) → Either (n ≡ over)
     go (within ts) = inr (within_not_over ts)
     go over = inl refl
-    go broken = inr (λ e. let z : ◌≡◌ {A = ℕ} 0 1 = cc in omega arith)
+    go broken = inr (λ e. cc)
 
 pub open_items : (h : List Event) → Sound h → (nest h ≡ over → ⊥) → (ts : List ℕ) × (nest h ≡ within ts)
 open_items h s not_over = go (nest h) refl
@@ -58,7 +54,7 @@ module _ (h : List Event) (ts : List ℕ) (at : nest h ≡ within ts) where
   deep_or_not : Either ((us : List ℕ) × (nest h ≡ within us) × (most_open ≤ length us))
   deep_or_not = elim (at_most_or_not most_open (length ts)) [
     | inl a ↦ inl (ts, at, a)
-    | inr b ↦ inr (λ y. b (subst (λ (us : List ℕ). most_open ≤ length us) (same_open y.0 ts (sym y.1 ∙ at)) y.2))
+    | inr b ↦ inr (λ y. b (subst (λ (us : List ℕ). most_open ≤ length us) (cc y.1) y.2))
   ]
 
   none_or_not : Either (nest h ≡ within [])
@@ -66,15 +62,15 @@ module _ (h : List Event) (ts : List ℕ) (at : nest h ≡ within ts) where
     where
       go : (us : List ℕ) → nest h ≡ within us → Either (nest h ≡ within [])
       go [] is = inl is
-      go (u ∷ us) is = inr (λ y. cons_not_nil u us (same_open (u ∷ us) [] (sym is ∙ y)))
+      go (u ∷ us) is = inr (λ y. cc)
 
   other_or_not : (t : ℕ) → Either ((u : ℕ) × (us : List ℕ) × (nest h ≡ within (u ∷ us)) × (u ≡ t → ⊥))
   other_or_not t = go ts at
     where
       go : (us : List ℕ) → nest h ≡ within us → Either ((u : ℕ) × (us : List ℕ) × (nest h ≡ within (u ∷ us)) × (u ≡ t → ⊥))
-      go [] is = inr (λ y. cons_not_nil y.0 y.1 (same_open (y.0 ∷ y.1) [] (sym y.2 ∙ is)))
+      go [] is = inr (λ y. cc y.2)
       go (u ∷ us) is = elim (cases_eq u t) [
-        | inl e ↦ inr (λ y. y.3 (same_head y.0 u y.1 us (same_open (y.0 ∷ y.1) (u ∷ us) (sym y.2 ∙ is)) ∙ e))
+        | inl e ↦ inr (λ y. y.3 (cc y.2))
         | inr ne ↦ inl (u, us, is, ne)
       ]
 
@@ -82,7 +78,7 @@ module _ (h : List Event) (ts : List ℕ) (at : nest h ≡ within ts) where
   open_or_not = go ts at
     where
       go : (us : List ℕ) → nest h ≡ within us → Either ((u : ℕ) × (us : List ℕ) × (nest h ≡ within (u ∷ us)))
-      go [] is = inr (λ y. cons_not_nil y.0 y.1 (same_open (y.0 ∷ y.1) [] (sym y.2 ∙ is)))
+      go [] is = inr (λ y. cc y.2)
       go (u ∷ us) is = inl (u, us, is)
 
 never : Either ⊥

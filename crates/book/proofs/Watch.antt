@@ -17,7 +17,8 @@ use Rattle.book.proofs.Questions.{not_every_both, not_every_some, not_never_some
 use Rattle.book.proofs.Tables.{tables_decide_acceptance}
 use Rattle.book.proofs.Checks.{not_both, topmost_same, watch_accepted_sound}
 use Rattle.book.proofs.History.{watched_same, watched_more, watched_sound}
-use Rattle.book.proofs.Exchanges.{map_append, kept_more, kept_at, through_all, same_exchanges, some_exchanges}
+use Rattle.std.proofs.lemmas.List.{map-append}
+use Rattle.book.proofs.Exchanges.{kept_more, kept_at, through_all, same_exchanges, some_exchanges}
 use Rattle.book.proofs.Telling.{watch_outcome}
 
 -- What a verdict says ---------------------------------------------------------------------------------------------
@@ -96,9 +97,6 @@ one_watch_run m xs ys k l e =
 
 -- Answers and checks ----------------------------------------------------------------------------------------------
 
-ok_not_err : (v : Verdict) (r : Refusal) (x : Result Verdict Refusal) → x ≡ Ok v → x ≡ Err r → ⊥
-ok_not_err v r x p q = let z : ◌≡◌ {A = ℕ} 0 1 = cc in omega arith
-
 err_same : (r s : Refusal) (x : Result Verdict Refusal) → x ≡ Err r → x ≡ Err s → r ≡ s
 err_same r s x p q = cc
 
@@ -110,10 +108,10 @@ watch_answers_agree m h x k = by_answer x.answer refl k
         (((v : Verdict) × (x.answer ≡ Ok v)) ↔ WatchAccepts m h x.call) × ((r : Refusal) → (x.answer ≡ Err r) ↔ WatchRefuses m h x.call r)
     by_answer (Ok v) is y = (
       (λ _. y.0, λ _. (v, is)),
-      λ r. (λ e. absurd (ok_not_err v r x.answer is e), λ t. absurd (not_both (SharedMet m h x.call) watch_lines r y.0 t)),
+      λ r. (λ e. cc, λ t. absurd (not_both (SharedMet m h x.call) watch_lines r y.0 t)),
     )
     by_answer (Err q) is y = (
-      (λ o. absurd (ok_not_err o.0 q x.answer o.1 is), λ ok. absurd (not_both (SharedMet m h x.call) watch_lines q ok y)),
+      (λ o. cc o.1, λ ok. absurd (not_both (SharedMet m h x.call) watch_lines q ok y)),
       λ r. (
         λ e. subst (WatchRefuses m h x.call) (err_same q r x.answer is e) y,
         λ t. is ∙ ap err_of (topmost_same (SharedMet m h x.call) watch_lines q r y t),
@@ -188,7 +186,7 @@ verdicts_of_runs m xs ys x zs p e h g before after_it =
     let k : WatchKeeps m h x = kept_at (WatchedSoFar m) watch_call (λ f ws w. WatchKeeps m f w) (watched_same m) xs ys x zs h p e before in
     let brought : (a : Result Verdict Refusal) → WatchAnswered m h x.call a → g ≡ watch_next h x.call a = (λ a y.
     watched_same m (map watch_call (ys ++ (x ∷ []))) g (watch_next h x.call a) after_it
-    (subst (λ (l : List Event). WatchedSoFar m l (watch_next h x.call a)) (sym (map_append watch_call ys (x ∷ [])))
+    (subst (λ (l : List Event). WatchedSoFar m l (watch_next h x.call a)) (sym (map-append watch_call ys (x ∷ [])))
     (watched_more m (map watch_call ys) x.call h (watch_next h x.call a) before (watch_brings m h x.call a y)))) in (
       λ v is.
           let y : WatchAnswered m h x.call (Ok v) = subst (WatchAnswered m h x.call) is k in

@@ -1,5 +1,5 @@
--- The number and the place of each fault of a book.
-use Rattle.std.specs.Prelude.{ℕ, Some, None, Option}
+-- The number and the place of each fault of a book, and its text.
+use Rattle.std.specs.Prelude.{ℕ, List, ◌++◌, codes, decimal, Some, None, Option}
 use Rattle.book.specs.declared.fault.BookFault.{BookFault}
 use Rattle.book.specs.declared.fault.BookFault.TheVariants.{ShortHeader, Letters, Version, HeaderNumber, CutOff, ExtraByte, TableEntry, NameByte, PathSteps, LevelDepth}
 
@@ -27,3 +27,11 @@ fault_place (TableEntry p) = Some p
 fault_place (NameByte p) = Some p
 fault_place PathSteps = None
 fault_place LevelDepth = None
+
+-- the number, and the place where there is one
+abbrev pub numbered_text : ℕ → Option ℕ → List ℕ
+numbered_text n (Some p) = codes "refused " ++ (decimal n ++ (codes " at " ++ decimal p))
+numbered_text n None = codes "refused " ++ decimal n
+
+abbrev pub fault_text : BookFault → List ℕ
+fault_text f = numbered_text (fault_number f) (fault_place f)

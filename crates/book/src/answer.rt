@@ -1,6 +1,9 @@
 // What the calls of a scan and of a watch answer.
-ghost use Rattle.std.specs.Prelude.{◌≡◌};
-ghost use Rattle.book.specs.Refusals.{number};
+ghost use Rattle.std.specs.Prelude.{◌≡◌, Some};
+ghost use Rattle.book.specs.Refusals.{number, refusal_text};
+
+use std::error::Error;
+use std::fmt;
 
 // One order: the item, the event that opened it, and the event at which it is ordered.
 #[derive(Clone, Copy, Debug, PartialEq, Eq)]
@@ -32,42 +35,41 @@ pub enum Verdict {
 #[derive(Clone, Copy, Debug, PartialEq, Eq)]
 pub enum Refusal {
     // the book has no states
-    NoStates,
+    NoStates = 1,
     // an end was accepted
-    Ended,
+    Ended = 2,
     // the list has room for fewer than 129 orders
-    ShortList,
+    ShortList = 3,
     // an open with a tag above 31
-    BadTag,
+    BadTag = 4,
     // an open where 64 items are open
-    TooDeep,
+    TooDeep = 5,
     // an open where 16,777,215 items were opened
-    TooMany,
+    TooMany = 6,
     // an open after which over 128 items would be held
-    HoldFull,
+    HoldFull = 7,
     // a close where no item is open
-    NoneOpen,
+    NoneOpen = 8,
     // a close with another tag than the innermost item's
-    OtherTag,
+    OtherTag = 9,
     // an end where an item is open
-    StillOpen,
+    StillOpen = 10,
 }
 
 impl Refusal {
     pub fn number(self) -> u32
         ensures { result ≡ number self }
     {
-        match self {
-            Refusal::NoStates => 1,
-            Refusal::Ended => 2,
-            Refusal::ShortList => 3,
-            Refusal::BadTag => 4,
-            Refusal::TooDeep => 5,
-            Refusal::TooMany => 6,
-            Refusal::HoldFull => 7,
-            Refusal::NoneOpen => 8,
-            Refusal::OtherTag => 9,
-            Refusal::StillOpen => 10,
-        }
+        self as u32
     }
 }
+
+impl fmt::Display for Refusal {
+    ghost output = { λ refusal. Some (refusal_text refusal) };
+
+    fn fmt<W: fmt::Write>(&self, f: &mut fmt::Formatter<W>) -> fmt::Result {
+        write!(f, "refused {}", self.number())
+    }
+}
+
+impl Error for Refusal {}

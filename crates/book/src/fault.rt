@@ -1,6 +1,9 @@
 // Why a book is refused, as a file or as it is made.
-ghost use Rattle.std.specs.Prelude.{◌≡◌};
-ghost use Rattle.book.specs.Faults.{fault_number, fault_place};
+ghost use Rattle.std.specs.Prelude.{◌≡◌, Some};
+ghost use Rattle.book.specs.Faults.{fault_number, fault_place, fault_text};
+
+use std::error::Error;
+use std::fmt;
 
 #[derive(Clone, Copy, Debug, PartialEq, Eq)]
 pub enum BookFault {
@@ -27,6 +30,7 @@ pub enum BookFault {
 }
 
 impl BookFault {
+    // The numbers stand here, since a variant with a field has none that `as` could read.
     pub fn number(self) -> u32
         ensures { result ≡ fault_number self }
     {
@@ -49,16 +53,28 @@ impl BookFault {
         ensures { result ≡ fault_place self }
     {
         match self {
-            BookFault::ShortHeader { length } => Some(length),
+            BookFault::ShortHeader { length } | BookFault::CutOff { length } => Some(length),
             BookFault::Letters => Some(0),
             BookFault::Version => Some(3),
-            BookFault::HeaderNumber { at } => Some(at),
-            BookFault::CutOff { length } => Some(length),
-            BookFault::ExtraByte { at } => Some(at),
-            BookFault::TableEntry { at } => Some(at),
-            BookFault::NameByte { at } => Some(at),
-            BookFault::PathSteps => None,
-            BookFault::LevelDepth => None,
+            BookFault::HeaderNumber { at }
+            | BookFault::ExtraByte { at }
+            | BookFault::TableEntry { at }
+            | BookFault::NameByte { at } => Some(at),
+            BookFault::PathSteps | BookFault::LevelDepth => None,
         }
     }
 }
+
+impl fmt::Display for BookFault {
+    ghost output = { λ fault. Some (fault_text fault) };
+
+    fn fmt<W: fmt::Write>(&self, f: &mut fmt::Formatter<W>) -> fmt::Result {
+        let number = self.number();
+        match self.place() {
+            Some(at) => write!(f, "refused {number} at {at}"),
+            None => write!(f, "refused {number}"),
+        }
+    }
+}
+
+impl Error for BookFault {}

@@ -8,9 +8,6 @@ pub trait ShapeBook {
     // The book's whole meaning: all its answers together.
     ghost machine: { Self → Machine };
 
-    // The rules of range, which the book's maker shows and generic code uses.
-    ghost lawful: { (book : Self) → Lawful (machine book) };
-
     // How many states the book has.
     fn width(&self) -> u16
         ensures { result ≡ (machine self.now).width };
@@ -31,4 +28,7 @@ pub trait ShapeBook {
     // Is a catalogue accepted whose run ends in this state?
     fn accepts(&self, state: u16) -> bool
         ensures { result ≡ (machine self.now).accepts state };
+
+    // The rules of range, which the book's maker shows and generic code uses.
+    ghost lawful: { (book : Self) → Lawful (machine book) };
 }

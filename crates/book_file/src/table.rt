@@ -1,7 +1,7 @@
 // Books that answer from the tables of a file, in the file's own bytes.
 ghost use Rattle.std.specs.Prelude.{◌≡◌, ◌+◌, ◌-◌, ◌*◌, ◌<◌, ◌≤◌, true, length};
 ghost use Rattle.book.specs.Limits.{most_states};
-ghost use Rattle.book_file.specs.Table.{below, column, entry, table, table_lawful, table_machine, table_marks};
+ghost use Rattle.book_file.specs.Table.{below, column, entry, table, table_lawful, table_machine, table_marks, table_marked};
 
 use book::limits::TAGS;
 use book::selecting_book::SelectingBook;
@@ -133,7 +133,7 @@ impl<'a> ShapeBook for SelectingTableBook<'a> {
 impl<'a> SelectingBook for SelectingTableBook<'a> {
     ghost marks = { λ b. table_marks (table b.shape.states b.shape.trees b.shape.columns b.shape.start b.shape.accept.now b.shape.enter.now b.shape.up.now b.shape.side.now) b.mark.now };
 
-    fn marked(&self) {}
+    ghost lawful_marks = { λ b. table_marked (table b.shape.states b.shape.trees b.shape.columns b.shape.start b.shape.accept.now b.shape.enter.now b.shape.up.now b.shape.side.now) b.mark.now b.marks };
 
     fn mark(&self, state: u16, tag: u8) -> u16 {
         if state < self.shape.states && tag < TAGS {

@@ -6,8 +6,8 @@ ghost use Rattle.cases.specs.Cases.{WorkedCases};
 
 use kinds::kind_cases::kind_cases_stand;
 
-pub fn worked_cases_stand() -> u8
+pub fn worked_cases_stand()
     ensures { WorkedCases }
 {
-    kind_cases_stand()
+    kind_cases_stand();
 }

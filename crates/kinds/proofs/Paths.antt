@@ -1,5 +1,5 @@
 -- The law of the path book.
-use Rattle.std.proofs.Common.{◌≡◌, ℕ, zero, suc, ◌+◌, ◌-◌, ◌*◌, ◌/◌, ◌%◌, ◌^◌, ◌<◌, ◌≤◌, Bool, true, false, cond, ◌&&◌, ◌||◌, eqb, ltb, leb, ◌⊎◌, List, [], ◌∷◌, reverse, length, drop, Decides, sym, refl, ap, ◌∙◌, subst, inl, inr, add-zero, pow-suc, arith, drop-cons, pow_pos}
+use Rattle.std.proofs.Common.{◌≡◌, ℕ, zero, suc, ◌+◌, ◌-◌, ◌*◌, ◌/◌, ◌%◌, ◌^◌, ◌<◌, ◌≤◌, Bool, true, false, cond, ◌&&◌, ◌||◌, eqb, ltb, leb, ◌⊎◌, List, [], ◌∷◌, reverse, length, drop, Decides, sym, refl, ap, ◌∙◌, subst, inl, inr, add-one, add-zero, pow-suc, arith, drop-cons, pow_pos}
 use mathlib.Core.List.{reverse_aux}
 use native.Mathlib.Nat.{div-eq_of_lt, add-mul-div_right}
 use Rattle.std.specs.List.{AllByRecursion}
@@ -29,6 +29,10 @@ lower_bit j m x h =
     let e : m ≡ suc k + j = omega arith in
     ap (λ (n : ℕ). (x + 2 ^ n) / 2 ^ j % 2) e ∙ ap (λ (y : ℕ). (x + y) / 2 ^ j % 2) (pow-add 2 (suc k) j)
     ∙ ap (λ (y : ℕ). y % 2) (add-mul-div_right x (2 ^ suc k) (pow_pos j)) ∙ (let p : 2 ^ suc k ≡ 2 ^ k * 2 = pow-suc 2 k in omega arith)
+
+-- one number more
+pub set_more : (p : ℕ → Bool) (m : ℕ) → set_of p (m + 1) ≡ set_of p m + cond (p m) (2 ^ m) 0
+set_more p m = ap (set_of p) (add-one m)
 
 member_set_of : (p : ℕ → Bool) (m j : ℕ) → j < m → member (set_of p m) j ≡ p j
 member_set_of p zero j h = absurd (omega arith)
@@ -62,7 +66,7 @@ member_one (suc j) h = absurd (both_ways (member 1 (suc j)) none h)
 -- Sets and the tags that they wait for ------------------------------------------------------------------------------
 
 descendant : (a : Axis) → descends a ≡ true → a ≡ Descendant
-descendant Child h = absurd (let z : ◌≡◌ {A = ℕ} 0 1 = cc in omega arith)
+descendant Child h = cc
 descendant Descendant h = refl
 
 step_fits_none : {a : PathStep} {rest : List PathStep} → Fits (a ∷ rest) [] → ⊥
@@ -109,7 +113,7 @@ module _ (steps : List PathStep) (some : 1 ≤ length steps) where
           )
 
       added : (j : ℕ) → j < length steps → Fits (drop j steps) (u ∷ us) → adds steps s t j ≡ true → Waits s (t ∷ u ∷ us)
-      added zero h f e = absurd (let z : ◌≡◌ {A = ℕ} 0 1 = cc in omega arith)
+      added zero h f e = cc
       added (suc j) h f e =
           let p = and_parts (member s j) (fits (step_at steps j) t) e in
           let l : j < length steps = omega arith in
@@ -300,5 +304,5 @@ module _ (steps : List PathStep) (some : 1 ≤ length steps) where
     where
       item : (x y a : Bool) → x ≡ true → y ≡ true → (x && y && a) ≡ a
       item true true a p q = refl
-      item true false a p q = absurd (let z : ◌≡◌ {A = ℕ} 0 1 = cc in omega arith)
-      item false y a p q = absurd (let z : ◌≡◌ {A = ℕ} 0 1 = cc in omega arith)
+      item true false a p q = cc
+      item false y a p q = cc

@@ -1,5 +1,4 @@
 pub mod Places
-pub mod OutOfRange
 pub mod Path
 pub mod LevelShape
 pub mod Opposite

@@ -1,18 +1,20 @@
 -- The path book: its steps, its meaning, its rules of range, and its law.
-use Rattle.std.specs.Prelude.{◌≡◌, ℕ, zero, suc, ◌+◌, ◌-◌, ◌*◌, ◌/◌, ◌%◌, ◌^◌, ◌<◌, ◌≤◌, Bool, true, false, cond, ◌&&◌, ◌||◌, ◌⊎◌, List, [], ◌∷◌, length, take, Decides, ◌==◌, nat_le, nat_lt, slice_index_or}
-use Rattle.std.proofs.Common.{⊎_elim, pow-suc, arith, ltb-true, ne_eqb, length-take, pow_mono, pow_pos}
-use Rattle.std.proofs.lemmas.Bool.{and_parts}
+use Rattle.std.specs.Prelude.{◌≡◌, ℕ, if◌then◌else◌, Result, Ok, Err, zero, suc, ◌+◌, ◌-◌, ◌*◌, ◌/◌, ◌%◌, ◌^◌, ◌<◌, ◌≤◌, Bool, true, false, cond, ◌&&◌, ◌||◌, List, [], ◌∷◌, length, take, Decides, ◌==◌, nat_le, nat_lt, slice_index_or}
+use Rattle.std.proofs.Common.{pow-suc, arith, length-take, pow_mono, pow_pos}
+use Rattle.std.proofs.lemmas.Bool.Decides.{nat_tests}
 use Rattle.book.specs.Limits.{tags, most_steps}
 use Rattle.book.specs.declared.event.Event.{Event}
+use Rattle.book.specs.declared.fault.BookFault.{BookFault}
+use Rattle.book.specs.declared.fault.BookFault.TheVariants.{PathSteps}
 use Rattle.kinds.specs.declared.path.Axis.{Axis}
 use Rattle.kinds.specs.declared.path.Axis.TheVariants.{Child, Descendant}
 use Rattle.kinds.specs.declared.path.TagTest.{TagTest}
 use Rattle.kinds.specs.declared.path.TagTest.TheVariants.{Any, Only}
 use Rattle.kinds.specs.declared.path.PathStep.{PathStep}
+use Rattle.kinds.specs.declared.path.Row.{Row}
 use Rattle.kinds.specs.declared.path.Step.{Step}
 use Rattle.book.specs.Catalogue.{Catalogue, opened}
 use Rattle.book.specs.Machines.{Machine, Marks, Lawful, LawfulMarks, selecting, selected}
-use Rattle.kinds.specs.OutOfRange.{answer_within, answer_none}
 use Rattle.kinds.specs.Places.{tags_to}
 
 -- Steps -----------------------------------------------------------------------------------------------------------
@@ -30,14 +32,18 @@ abbrev pub path_right : List Step → Bool
 path_right ss = nat_le 1 (length ss) && (nat_le (length ss) most_steps && steps_right ss)
 
 abbrev pub axis_of : ℕ → Axis
-axis_of a = cond (a == 0) Child Descendant
+axis_of a = if a == 0 then Child else Descendant
 
 abbrev pub test_of : ℕ → TagTest
-test_of t = cond (t == 255) Any (Only t)
+test_of t = if t == 255 then Any else Only t
 
 -- the step that the numbers mean
 abbrev pub step_of : Step → PathStep
 step_of s = record { axis = axis_of s.axis; tag = test_of s.tag }
+
+-- the step, or a refusal
+abbrev pub step_from : Step → Result PathStep BookFault
+step_from s = if step_right s then Ok (step_of s) else Err PathSteps
 
 abbrev pub descends : Axis → Bool
 descends Child = false
@@ -54,6 +60,10 @@ fits a t = passes a.tag t
 -- step j + 1 of a path
 abbrev pub step_at : List PathStep → ℕ → PathStep
 step_at steps j = slice_index_or steps j (record { axis = Child; tag = Any })
+
+-- the steps that a row holds
+abbrev pub steps_of : Row → List PathStep
+steps_of r = take r.count r.steps
 
 -- Meaning ---------------------------------------------------------------------------------------------------------
 
@@ -94,14 +104,16 @@ path_machine steps =
     record {
       width = 2 ^ length steps + 2;
       start = 1;
-      enter = λ s t. cond (nat_lt s (2 ^ length steps + 2) && nat_lt t tags) (cond (nat_lt s (2 ^ length steps)) (enter_set steps s t) s) 0;
-      back = λ s q t. cond (nat_lt s (2 ^ length steps + 2) && (nat_lt q (2 ^ length steps + 2) && nat_lt t tags)) (cond (nat_lt q (2 ^ length steps)) s q) 0;
+      enter = λ s t. if nat_lt s (2 ^ length steps + 2) && nat_lt t tags then (if nat_lt s (2 ^ length steps) then enter_set steps s t else s) else 0;
+      back = λ s q t. if nat_lt s (2 ^ length steps + 2) && (nat_lt q (2 ^ length steps + 2) && nat_lt t tags) then (if nat_lt q (2 ^ length steps) then s else q) else 0;
       accepts = λ s. (s == hit (length steps));
     }
 
 abbrev pub path_marks : List PathStep → Marks
 path_marks steps s t =
-    cond (nat_lt s (2 ^ length steps + 2) && nat_lt t tags) (cond (nat_lt s (2 ^ length steps)) (cond (matches steps s t) (hit (length steps)) (miss (length steps))) s) 0
+    if nat_lt s (2 ^ length steps + 2) && nat_lt t tags
+    then (if nat_lt s (2 ^ length steps) then (if matches steps s t then hit (length steps) else miss (length steps)) else s)
+    else 0
 
 -- Rules of range --------------------------------------------------------------------------------------------------
 
@@ -113,57 +125,28 @@ set_of_below p (suc m) = one (p m) (set_of_below p m)
     one true h = let e : 2 ^ suc m ≡ 2 ^ m * 2 = pow-suc 2 m in omega arith
     one false h = let e : 2 ^ suc m ≡ 2 ^ m * 2 = pow-suc 2 m in omega arith
 
--- where a set leads to another state, and hit and miss to themselves
-from_set : (b : Bool) (m s x : ℕ) → s < 2 ^ m + 2 → x ≤ 2 ^ m + 1 → cond b x s ≤ 2 ^ m + 2 - 1
-from_set true m s x hs hx = omega arith
-from_set false m s x hs hx = omega arith
-
-hit_or_miss : (b : Bool) (m : ℕ) → cond b (hit m) (miss m) ≤ 2 ^ m + 1
-hit_or_miss true m = omega arith
-hit_or_miss false m = omega arith
-
 module _ (steps : List PathStep) where
-  in_range : (s t : ℕ) → (nat_lt s (2 ^ length steps + 2) && nat_lt t tags) ≡ true → (s < 2 ^ length steps + 2) × (t < tags)
-  in_range s t e =
-      let p = and_parts (nat_lt s (2 ^ length steps + 2)) (nat_lt t tags) e in
-      (ltb-true s (2 ^ length steps + 2) p.0, ltb-true t tags p.1)
-
-  in_range_both : (s q t : ℕ) → (nat_lt s (2 ^ length steps + 2) && (nat_lt q (2 ^ length steps + 2) && nat_lt t tags)) ≡ true → (s < 2 ^ length steps + 2) × (q < 2 ^ length steps + 2) × (t < tags)
-  in_range_both s q t e =
-      let p = and_parts (nat_lt s (2 ^ length steps + 2)) (nat_lt q (2 ^ length steps + 2) && nat_lt t tags) e in
-      let r = in_range q t p.1 in
-      (ltb-true s (2 ^ length steps + 2) p.0, r.0, r.1)
-
-  none_asked : (s t x : ℕ) → (2 ^ length steps + 2 ≤ s) ⊎ (tags ≤ t) → cond (nat_lt s (2 ^ length steps + 2) && nat_lt t tags) x 0 ≡ 0
-  none_asked s t x o =
-      answer_none (nat_lt s (2 ^ length steps + 2) && nat_lt t tags) x
-      (λ e. let r = in_range s t e in absurd (⊎_elim (λ h. omega arith) (λ h. omega arith) o))
-
   pub path_lawful : length steps ≤ most_steps → Lawful (path_machine steps)
   path_lawful few =
       record {
         narrow = let p : 2 ^ length steps ≤ 2 ^ most_steps = pow_mono few in omega arith;
         starts = let p : 0 < 2 ^ length steps = pow_pos (length steps) in omega arith;
-        enters = λ s t. answer_within (nat_lt s (2 ^ length steps + 2) && nat_lt t tags) (2 ^ length steps + 2) _
-            (λ e. from_set (nat_lt s (2 ^ length steps)) (length steps) s (enter_set steps s t) (in_range s t e).0 (omega (arith, set_of_below (λ j. keeps steps s j || adds steps s t j) (length steps))));
-        backs = λ s q t. answer_within (nat_lt s (2 ^ length steps + 2) && (nat_lt q (2 ^ length steps + 2) && nat_lt t tags)) (2 ^ length steps + 2) _
-            (λ e. let r = in_range_both s q t e in from_set (nat_lt q (2 ^ length steps)) (length steps) q s r.1 (omega arith));
-        no_enter = λ s t o. none_asked s t _ o;
-        no_back = λ s q t o. answer_none (nat_lt s (2 ^ length steps + 2) && (nat_lt q (2 ^ length steps + 2) && nat_lt t tags)) _
-            (λ e. let r = in_range_both s q t e in absurd (⊎_elim (λ h. omega arith) (⊎_elim (λ h. omega arith) (λ h. omega arith)) o));
-        no_accept = λ s h. ne_eqb s (hit (length steps)) (λ e. omega arith);
+        enters = λ s t. let below = set_of_below (λ j. keeps steps s j || adds steps s t j) (length steps) in grind (arith, nat_tests, below);
+        backs = λ s q t. grind (arith, nat_tests);
+        no_enter = λ s t o. grind (arith, nat_tests);
+        no_back = λ s q t o. grind (arith, nat_tests);
+        no_accept = λ s h. grind (arith, nat_tests);
       }
 
   pub path_marks_lawful : LawfulMarks (path_machine steps) (path_marks steps)
   path_marks_lawful =
       record {
-        marks = λ s t. answer_within (nat_lt s (2 ^ length steps + 2) && nat_lt t tags) (2 ^ length steps + 2) _
-            (λ e. from_set (nat_lt s (2 ^ length steps)) (length steps) s (cond (matches steps s t) (hit (length steps)) (miss (length steps))) (in_range s t e).0 (hit_or_miss (matches steps s t) (length steps)));
-        no_mark = λ s t o. none_asked s t _ o;
+        marks = λ s t. grind (arith, nat_tests);
+        no_mark = λ s t o. grind (arith, nat_tests);
       }
 
-pub take_few : (n : ℕ) (steps : List PathStep) → n ≤ most_steps → length (take n steps) ≤ most_steps
-take_few n steps few = simp length-take (omega arith)
+pub few_steps : (r : Row) → r.count ≤ most_steps → length (steps_of r) ≤ most_steps
+few_steps r few = simp length-take (omega arith)
 
 -- Law -------------------------------------------------------------------------------------------------------------
 

@@ -1,7 +1,7 @@
 // Two books as one: it accepts where both do.
 ghost use Rattle.std.specs.Prelude.{◌≡◌, ◌-◌, ◌<◌, ◌≤◌};
 ghost use Rattle.book.specs.Limits.{most_states};
-ghost use Rattle.kinds.specs.Both.{both_width, joined, both, both_marks, both_lawful, BothAccepts, BothSelects};
+ghost use Rattle.kinds.specs.Both.{both_width, joined, parts_of, both, both_marks, both_lawful, both_marks_lawful, BothAccepts, BothSelects};
 
 use book::limits::MOST_STATES;
 use book::selecting_book::SelectingBook;
@@ -17,8 +17,8 @@ pub struct Both<L: ShapeBook, R: ShapeBook> {
 impl<L: ShapeBook, R: ShapeBook> Both<L, R> {
     pub fn new(left: L, right: R) -> Both<L, R>
         ensures value { (result.left ≡ left) × (result.right ≡ right) }
-        ensures accepts { BothAccepts (L.ShapeBook.machine left) (R.ShapeBook.machine right) }
-        ensures selects { BothSelects (L.ShapeBook.machine left) (R.ShapeBook.machine right) }
+        ensures accepts { BothAccepts (L.machine left) (R.machine right) }
+        ensures selects { BothSelects (L.machine left) (R.machine right) }
     {
         laws(&left, &right);
         Both { left, right }
@@ -32,114 +32,121 @@ impl<L: ShapeBook, R: ShapeBook> Both<L, R> {
     }
 }
 
-// No effect: what two books accept and select together.
+// No effect: what two books accept and select together. `new` shows it by this call.
 fn laws<L: ShapeBook, R: ShapeBook>(left: &L, right: &R)
-    ensures accepts { BothAccepts (L.ShapeBook.machine left.now) (R.ShapeBook.machine right.now) }
-    ensures selects { BothSelects (L.ShapeBook.machine left.now) (R.ShapeBook.machine right.now) }
+    ensures accepts { BothAccepts (L.machine left.now) (R.machine right.now) }
+    ensures selects { BothSelects (L.machine left.now) (R.machine right.now) }
 {}
 
-// The width of two books together: 0 if the product exceeds the limit.
-fn product(left: u16, right: u16) -> u16
-    requires { (left ≤ most_states) × (right ≤ most_states) }
-    ensures { result ≡ both_width left right }
-{
-    let all = left as u32 * right as u32;
-    if all <= MOST_STATES as u32 {
-        all as u16
-    } else {
-        0
+// The widths of two books, each within the limit.
+#[derive(Clone, Copy)]
+struct Widths {
+    left: u16,
+    right: u16,
+    ghost left_narrow: { left ≤ most_states },
+    ghost right_narrow: { right ≤ most_states },
+}
+
+impl Widths {
+    // The width of the two together: 0 if the product exceeds the limit.
+    fn product(self) -> u16
+        ensures { result ≡ both_width self.left self.right }
+    {
+        let all = self.left * self.right;
+        if all <= MOST_STATES { all } else { 0 }
+    }
+
+    // The parts of a state of the two together.
+    fn parts(self, state: u16) -> Option<(u16, u16)>
+        ensures { result ≡ parts_of self.left self.right state }
+    {
+        if state < self.product() {
+            Some((state / self.right, state % self.right))
+        } else {
+            None
+        }
+    }
+
+    // The state whose parts are `left` and `right`.
+    #[tactic(auto, using(crate::specs::Both::joined_within, crate::specs::Both::both_narrow))]
+    fn join(self, left: u16, right: u16) -> u16
+        requires left_bound { left ≤ self.left - 1 }
+        requires right_bound { right ≤ self.right - 1 }
+        requires some { 0 < both_width self.left self.right }
+        ensures { result ≡ joined self.right left right }
+    {
+        left * self.right + right
     }
 }
 
-// The state whose parts are `left` and `right`.
-fn join(left: u16, right: u16, left_width: u16, right_width: u16) -> u16
-    requires left_bound { left ≤ left_width - 1 }
-    requires right_bound { right ≤ right_width - 1 }
-    requires right_width_nonzero { 0 < both_width left_width right_width }
-    ensures { result ≡ joined right_width left right }
-{
-    left * right_width + right
+impl<L: ShapeBook, R: ShapeBook> Both<L, R> {
+    fn widths(&self) -> Widths
+        ensures { (result.left ≡ (L.machine self.now.left).width) × (result.right ≡ (R.machine self.now.right).width) }
+    {
+        Widths {
+            left: self.left.width(),
+            right: self.right.width(),
+        }
+    }
 }
 
 impl<L: ShapeBook, R: ShapeBook> ShapeBook for Both<L, R> {
-    ghost machine = { λ o. both (L.ShapeBook.machine o.left) (R.ShapeBook.machine o.right) };
+    ghost machine = { λ o. both (L.machine o.left) (R.machine o.right) };
 
-    ghost lawful = { λ o. both_lawful (L.ShapeBook.machine o.left) (R.ShapeBook.machine o.right) (L.ShapeBook.lawful o.left) (R.ShapeBook.lawful o.right) };
+    ghost lawful = { λ o. both_lawful _ _ (L.lawful o.left) (R.lawful o.right) };
 
     fn width(&self) -> u16 {
-        product(self.left.width(), self.right.width())
+        self.widths().product()
     }
 
     fn start(&self) -> u16 {
-        let left = self.left.width();
-        let right = self.right.width();
-        if product(left, right) > 0 {
-            join(self.left.start(), self.right.start(), left, right)
-        } else {
-            0
+        let widths = self.widths();
+        if widths.product() == 0 {
+            return 0;
         }
+        widths.join(self.left.start(), self.right.start())
     }
 
+    // `mark` goes the same way: one function for both would need two closures, and what they answer, in its contract.
     fn enter(&self, state: u16, tag: u8) -> u16 {
-        let left = self.left.width();
-        let right = self.right.width();
-        if state < product(left, right) {
-            join(
-                self.left.enter(state / right, tag),
-                self.right.enter(state % right, tag),
-                left,
-                right,
-            )
-        } else {
-            0
-        }
+        let widths = self.widths();
+        let Some((left, right)) = widths.parts(state) else {
+            return 0;
+        };
+        widths.join(self.left.enter(left, tag), self.right.enter(right, tag))
     }
 
     fn back(&self, outer: u16, inner: u16, tag: u8) -> u16 {
-        let left = self.left.width();
-        let right = self.right.width();
-        let all = product(left, right);
-        if outer < all && inner < all {
-            let first = self.left.back(outer / right, inner / right, tag);
-            let second = self.right.back(outer % right, inner % right, tag);
-            join(first, second, left, right)
-        } else {
-            0
-        }
+        let widths = self.widths();
+        let Some((outer_left, outer_right)) = widths.parts(outer) else {
+            return 0;
+        };
+        let Some((inner_left, inner_right)) = widths.parts(inner) else {
+            return 0;
+        };
+        let left = self.left.back(outer_left, inner_left, tag);
+        let right = self.right.back(outer_right, inner_right, tag);
+        widths.join(left, right)
     }
 
     fn accepts(&self, state: u16) -> bool {
-        let right = self.right.width();
-        if state < product(self.left.width(), right) {
-            self.left.accepts(state / right) & self.right.accepts(state % right)
-        } else {
-            false
-        }
+        let Some((left, right)) = self.widths().parts(state) else {
+            return false;
+        };
+        self.left.accepts(left) && self.right.accepts(right)
     }
 }
 
 impl<L: SelectingBook, R: SelectingBook> SelectingBook for Both<L, R> {
-    ghost marks = { λ o. both_marks (L.ShapeBook.machine o.left) (R.ShapeBook.machine o.right) (L.SelectingBook.marks o.left) (R.SelectingBook.marks o.right) };
+    ghost marks = { λ o. both_marks (L.machine o.left) (R.machine o.right) (L.marks o.left) (R.marks o.right) };
 
-    fn marked(&self) {
-        self.left.marked();
-        self.right.marked();
-    }
+    ghost lawful_marks = { λ o. both_marks_lawful _ _ _ _ (L.lawful_marks o.left) (R.lawful_marks o.right) };
 
     fn mark(&self, state: u16, tag: u8) -> u16 {
-        self.left.marked();
-        self.right.marked();
-        let left = self.left.width();
-        let right = self.right.width();
-        if state < product(left, right) {
-            join(
-                self.left.mark(state / right, tag),
-                self.right.mark(state % right, tag),
-                left,
-                right,
-            )
-        } else {
-            0
-        }
+        let widths = self.widths();
+        let Some((left, right)) = widths.parts(state) else {
+            return 0;
+        };
+        widths.join(self.left.mark(left, tag), self.right.mark(right, tag))
     }
 }

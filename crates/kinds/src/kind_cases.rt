@@ -1,11 +1,9 @@
 // Worked cases of the kinds of book: proved as one statement, and run.
 ghost use Rattle.kinds.specs.KindCases.{KindCases};
 
-pub fn kind_cases_stand() -> u8
+pub fn kind_cases_stand()
     ensures { KindCases }
-{
-    0
-}
+{}
 
 #[cfg(test)]
 mod tests {
@@ -13,6 +11,8 @@ mod tests {
     use crate::level::LevelShape;
     use crate::opposite::Opposite;
     use crate::path::{PathBook, Step};
+    use book::answer::Refusal;
+    use book::fault::BookFault;
     use book::selecting_book::SelectingBook;
     use book::shape_book::ShapeBook;
     use std::test::Fail;
@@ -35,18 +35,12 @@ mod tests {
         book.mark(book.width(), 0) == 0 && book.mark(0, 32) == 0
     }
 
-    fn path_refusal(steps: &[Step]) -> u32 {
-        match PathBook::new(steps) {
-            Ok(_) => 0,
-            Err(fault) => fault.number(),
-        }
+    fn path_refusal(steps: &[Step]) -> Option<u32> {
+        PathBook::new(steps).err().map(BookFault::number)
     }
 
-    fn level_refusal(depth: u8) -> u32 {
-        match LevelShape::new(depth) {
-            Ok(_) => 0,
-            Err(fault) => fault.number(),
-        }
+    fn level_refusal(depth: u8) -> Option<u32> {
+        LevelShape::new(depth).err().map(BookFault::number)
     }
 
     #[test]
@@ -100,15 +94,28 @@ mod tests {
 
     #[test]
     fn refused_at_the_edges(rt: HostRuntime) {
-        assert_eq!(rt; path_refusal(&[]), 19);
-        assert_eq!(rt; path_refusal(&[CHILD_ANY; 5]), 19);
-        assert_eq!(rt; path_refusal(&[CHILD_ANY; 4]), 0);
-        assert_eq!(rt; path_refusal(&[Step { axis: 2, tag: 1 }]), 19);
-        assert_eq!(rt; path_refusal(&[Step { axis: 1, tag: 32 }]), 19);
-        assert_eq!(rt; path_refusal(&[Step { axis: 1, tag: 254 }]), 19);
-        assert_eq!(rt; path_refusal(&[Step { axis: 1, tag: 31 }]), 0);
-        assert_eq!(rt; level_refusal(0), 20);
-        assert_eq!(rt; level_refusal(33), 20);
-        assert!(rt; level_refusal(1) == 0 && level_refusal(32) == 0);
+        assert_eq!(rt; path_refusal(&[]), Some(19));
+        assert_eq!(rt; path_refusal(&[CHILD_ANY; 5]), Some(19));
+        assert_eq!(rt; path_refusal(&[CHILD_ANY; 4]), None);
+        assert_eq!(rt; path_refusal(&[Step { axis: 2, tag: 1 }]), Some(19));
+        assert_eq!(rt; path_refusal(&[Step { axis: 1, tag: 32 }]), Some(19));
+        assert_eq!(rt; path_refusal(&[Step { axis: 1, tag: 254 }]), Some(19));
+        assert_eq!(rt; path_refusal(&[Step { axis: 1, tag: 31 }]), None);
+        assert_eq!(rt; level_refusal(0), Some(20));
+        assert_eq!(rt; level_refusal(33), Some(20));
+        assert!(rt; level_refusal(1).is_none() && level_refusal(32).is_none());
+    }
+
+    #[test]
+    fn refusals_as_text(rt: HostRuntime) -> Result<(), Fail> {
+        let alloc = rt.alloc();
+        assert_eq!(rt;
+            BookFault::LevelDepth.to_string(alloc)?.as_str(),
+            "refused 20"
+        );
+        let header = BookFault::HeaderNumber { at: 5 };
+        assert_eq!(rt; header.to_string(alloc)?.as_str(), "refused 14 at 5");
+        assert_eq!(rt; Refusal::TooDeep.to_string(alloc)?.as_str(), "refused 5");
+        Ok(())
     }
 }

@@ -10,35 +10,32 @@ use book::shape_book::ShapeBook;
 
 #[derive(Clone, Copy)]
 pub struct LevelShape {
-    depth: u8,
+    depth: u16,
     ghost shallow: { depth ≤ most_depth },
 }
 
 impl LevelShape {
+    #[tactic(auto, using(crate::proofs::LevelShapes::level_accepts))]
     pub fn new(depth: u8) -> Result<LevelShape, BookFault>
         ensures value { MatchResult result (λ s. (depth_right depth ≡ true) × (s.depth ≡ depth)) (λ f. (depth_right depth ≡ false) × (f ≡ LevelDepth)) }
         ensures accepts { LevelAccepts depth }
     {
-        law(depth);
         if depth < 1 || depth > MOST_DEPTH {
             return Err(BookFault::LevelDepth);
         }
-        Ok(LevelShape { depth })
+        Ok(LevelShape {
+            depth: u16::from(depth),
+        })
     }
 }
-
-// No effect: what a level shape accepts.
-fn law(depth: u8)
-    ensures { LevelAccepts depth }
-{}
 
 impl ShapeBook for LevelShape {
     ghost machine = { λ s. level_machine s.depth };
 
-    ghost lawful = { λ s. level_lawful s.depth s.shallow };
+    ghost lawful = { λ s. level_lawful _ s.shallow };
 
     fn width(&self) -> u16 {
-        self.depth as u16 + 2
+        self.depth + 2
     }
 
     fn start(&self) -> u16 {
@@ -46,28 +43,22 @@ impl ShapeBook for LevelShape {
     }
 
     fn enter(&self, state: u16, tag: u8) -> u16 {
-        let deeper = self.depth as u16 + 1;
+        let deeper = self.depth + 1;
         if state > deeper || tag >= TAGS {
-            0
-        } else if state == deeper {
-            deeper
-        } else {
-            state + 1
+            return 0;
         }
+        deeper.min(state + 1)
     }
 
     fn back(&self, outer: u16, inner: u16, tag: u8) -> u16 {
-        let deeper = self.depth as u16 + 1;
+        let deeper = self.depth + 1;
         if outer > deeper || inner > deeper || tag >= TAGS {
-            0
-        } else if inner == deeper {
-            deeper
-        } else {
-            outer
+            return 0;
         }
+        if inner == deeper { deeper } else { outer }
     }
 
     fn accepts(&self, state: u16) -> bool {
-        state <= self.depth as u16
+        state <= self.depth
     }
 }

@@ -1,6 +1,6 @@
 // The opposite of a book: it accepts where the other does not.
 ghost use Rattle.std.specs.Prelude.{◌≡◌};
-ghost use Rattle.kinds.specs.Opposite.{opposite, opposite_lawful, OppositeAccepts, OppositeSelects};
+ghost use Rattle.kinds.specs.Opposite.{opposite, opposite_lawful, opposite_marks_lawful, OppositeAccepts, OppositeSelects};
 
 use book::selecting_book::SelectingBook;
 use book::shape_book::ShapeBook;
@@ -13,8 +13,8 @@ pub struct Opposite<B: ShapeBook> {
 impl<B: ShapeBook> Opposite<B> {
     pub fn new(book: B) -> Opposite<B>
         ensures value { result.book ≡ book }
-        ensures accepts { OppositeAccepts (B.ShapeBook.machine book) }
-        ensures selects { OppositeSelects (B.ShapeBook.machine book) }
+        ensures accepts { OppositeAccepts (B.machine book) }
+        ensures selects { OppositeSelects (B.machine book) }
     {
         laws(&book);
         Opposite { book }
@@ -28,16 +28,17 @@ impl<B: ShapeBook> Opposite<B> {
     }
 }
 
-// No effect: what the opposite of a book accepts and selects.
+// No effect: what the opposite of a book accepts and selects. `new` shows it by this call.
+#[tactic(auto, using(crate::proofs::Opposites::opposite_accepts, crate::proofs::Opposites::opposite_selects))]
 fn laws<B: ShapeBook>(book: &B)
-    ensures accepts { OppositeAccepts (B.ShapeBook.machine book.now) }
-    ensures selects { OppositeSelects (B.ShapeBook.machine book.now) }
+    ensures accepts { OppositeAccepts (B.machine book.now) }
+    ensures selects { OppositeSelects (B.machine book.now) }
 {}
 
 impl<B: ShapeBook> ShapeBook for Opposite<B> {
-    ghost machine = { λ o. opposite (B.ShapeBook.machine o.book) };
+    ghost machine = { λ o. opposite (B.machine o.book) };
 
-    ghost lawful = { λ o. opposite_lawful (B.ShapeBook.machine o.book) (B.ShapeBook.lawful o.book) };
+    ghost lawful = { λ o. opposite_lawful _ (B.lawful o.book) };
 
     fn width(&self) -> u16 {
         self.book.width()
@@ -61,11 +62,9 @@ impl<B: ShapeBook> ShapeBook for Opposite<B> {
 }
 
 impl<B: SelectingBook> SelectingBook for Opposite<B> {
-    ghost marks = { λ o. B.SelectingBook.marks o.book };
+    ghost marks = { λ o. B.marks o.book };
 
-    fn marked(&self) {
-        self.book.marked();
-    }
+    ghost lawful_marks = { λ o. opposite_marks_lawful _ _ (B.lawful_marks o.book) };
 
     fn mark(&self, state: u16, tag: u8) -> u16 {
         self.book.mark(state, tag)

@@ -2,7 +2,7 @@
 ghost use Rattle.std.specs.Prelude.{◌≡◌, ◌^◌, ◌<◌, ◌≤◌, true, false, ◌||◌, map, length, take, MatchResult};
 ghost use Rattle.book.specs.Limits.{most_steps};
 ghost use Rattle.book.specs.declared.fault.BookFault.TheVariants.{PathSteps};
-ghost use Rattle.kinds.specs.Path.{step_right, steps_right, path_right, step_of, descends, fits, step_at, member, keeps, adds, enter_set, matches, path_machine, path_marks, take_few, path_lawful, PathSelects};
+ghost use Rattle.kinds.specs.Path.{steps_right, path_right, step_of, step_from, steps_of, descends, fits, member, keeps, adds, enter_set, matches, path_machine, path_marks, few_steps, path_lawful, path_marks_lawful, PathSelects};
 
 use book::fault::BookFault;
 use book::limits::{MOST_STEPS, TAGS};
@@ -12,8 +12,11 @@ use book::shape_book::ShapeBook;
 // The tag of a step that fits every tag.
 const ANY_TAG: u8 = 255;
 
+// The greatest tag of a step that fits one tag.
+const LAST_TAG: u8 = TAGS - 1;
+
 // A step as it is given.
-#[derive(Clone, Copy, Debug)]
+#[derive(Clone, Copy, Debug, PartialEq, Eq)]
 pub struct Step {
     // 0 child, 1 descendant
     pub axis: u8,
@@ -21,7 +24,9 @@ pub struct Step {
     pub tag: u8,
 }
 
-#[derive(Clone, Copy)]
+// Steps -----------------------------------------------------------------------------------------------------------
+
+#[derive(Clone, Copy, PartialEq, Eq)]
 enum Axis {
     // the next item down
     Child,
@@ -41,117 +46,31 @@ struct PathStep {
     tag: TagTest,
 }
 
-// The path is the first `count` steps; the others fill the row.
-#[derive(Clone, Copy)]
-pub struct PathBook {
-    steps: [PathStep; MOST_STEPS],
-    count: usize,
-    ghost some: { 1 ≤ count },
-    ghost few: { count ≤ most_steps },
-}
+impl TryFrom<Step> for PathStep {
+    type Error = BookFault;
 
-impl PathBook {
-    pub fn new(steps: &[Step]) -> Result<PathBook, BookFault>
-        ensures { MatchResult result (λ b. (path_right steps.now ≡ true) × (take b.count b.steps ≡ map step_of steps.now) × PathSelects (take b.count b.steps)) (λ f. (path_right steps.now ≡ false) × (f ≡ PathSteps)) }
-    {
-        let count = steps.len();
-        if count < 1 || count > MOST_STEPS || !all_right(steps) {
-            return Err(BookFault::PathSteps);
-        }
-        let steps = converted(steps);
-        law(&steps, count);
-        Ok(PathBook { steps, count })
+    ghost try_from_gives = { λ step made. made ≡ step_from step };
+
+    fn try_from(step: Step) -> Result<PathStep, BookFault> {
+        let axis = match step.axis {
+            0 => Axis::Child,
+            1 => Axis::Descendant,
+            _ => return Err(BookFault::PathSteps),
+        };
+        let tag = match step.tag {
+            ANY_TAG => TagTest::Any,
+            0..=LAST_TAG => TagTest::Only(step.tag),
+            _ => return Err(BookFault::PathSteps),
+        };
+        Ok(PathStep { axis, tag })
     }
 }
-
-// A set of matched steps is a state below `miss`: bit j says that the first j steps are matched. `miss + 1` is hit.
-impl ShapeBook for PathBook {
-    ghost machine = { λ b. path_machine (take b.count b.steps) };
-
-    ghost lawful = { λ b. path_lawful (take b.count b.steps) (take_few b.count b.steps b.few) };
-
-    fn width(&self) -> u16 {
-        sets(path(&self.steps, self.count)) + 2
-    }
-
-    fn start(&self) -> u16 {
-        1
-    }
-
-    fn enter(&self, state: u16, tag: u8) -> u16 {
-        let steps = path(&self.steps, self.count);
-        let miss = sets(steps);
-        if state > miss + 1 || tag >= TAGS {
-            0
-        } else if state < miss {
-            enter_set(steps, state, tag)
-        } else {
-            state
-        }
-    }
-
-    fn back(&self, outer: u16, inner: u16, tag: u8) -> u16 {
-        let miss = sets(path(&self.steps, self.count));
-        if outer > miss + 1 || inner > miss + 1 || tag >= TAGS {
-            0
-        } else if inner < miss {
-            outer
-        } else {
-            inner
-        }
-    }
-
-    fn accepts(&self, state: u16) -> bool {
-        state == sets(path(&self.steps, self.count)) + 1
-    }
-}
-
-impl SelectingBook for PathBook {
-    ghost marks = { λ b. path_marks (take b.count b.steps) };
-
-    fn marked(&self) {}
-
-    fn mark(&self, state: u16, tag: u8) -> u16 {
-        let steps = path(&self.steps, self.count);
-        let miss = sets(steps);
-        if state > miss + 1 || tag >= TAGS {
-            0
-        } else if state >= miss {
-            state
-        } else if all_matched(steps, state, tag) {
-            miss + 1
-        } else {
-            miss
-        }
-    }
-}
-
-// Steps -----------------------------------------------------------------------------------------------------------
 
 impl PathStep {
-    fn of(step: Step) -> PathStep
-        ensures { result ≡ step_of step }
-    {
-        let axis = if step.axis == 0 {
-            Axis::Child
-        } else {
-            Axis::Descendant
-        };
-        let tag = if step.tag == ANY_TAG {
-            TagTest::Any
-        } else {
-            TagTest::Only(step.tag)
-        };
-        PathStep { axis, tag }
-    }
-
     fn descends(self) -> bool
         ensures { result ≡ descends self.axis }
     {
-        match self.axis {
-            Axis::Child => false,
-            Axis::Descendant => true,
-        }
+        self.axis == Axis::Descendant
     }
 
     fn fits(self, tag: u8) -> bool
@@ -164,64 +83,57 @@ impl PathStep {
     }
 }
 
-// Is it a child or a descendant step, with a tag or any?
-fn is_right(step: Step) -> bool
-    ensures { result ≡ step_right step }
-{
-    step.axis <= 1 && (step.tag < TAGS || step.tag == ANY_TAG)
+// Paths -----------------------------------------------------------------------------------------------------------
+
+// A set of matched steps is a number below `sets`: bit j says that the first j steps are matched.
+#[derive(Clone, Copy)]
+struct Path<'a> {
+    steps: &'a [PathStep],
+    ghost some: { 1 ≤ length steps.now },
+    ghost few: { length steps.now ≤ most_steps },
 }
 
-fn all_right(steps: &[Step]) -> bool
-    ensures { result ≡ steps_right steps.now }
-{
-    for step in steps {
-        if !is_right(*step) {
-            return false;
+impl Path<'_> {
+    // How many sets there are.
+    #[tactic(auto, using(std::proofs::lemmas::Nat::one_shl, std::proofs::Common::pow_mono))]
+    fn sets(&self) -> u16
+        ensures { (result ≡ 2 ^ length self.now.steps.now) × (result ≤ 2 ^ most_steps) }
+    {
+        1 << self.steps.len()
+    }
+
+    // Inside an item with this tag, are the first `place` steps matched?
+    fn reaches(&self, set: u16, tag: u8, place: usize) -> bool
+        requires { place < length self.now.steps.now }
+        ensures { result ≡ (keeps self.now.steps.now set place || adds self.now.steps.now set tag place) }
+    {
+        let kept = has(set, place) && self.steps[place].descends();
+        let added = place > 0 && has(set, place - 1) && self.steps[place - 1].fits(tag);
+        kept || added
+    }
+
+    // The set inside an item with this tag.
+    #[tactic(auto, using(std::proofs::lemmas::Nat::one_shl, std::proofs::Common::pow_mono, crate::specs::Path::set_of_below, crate::proofs::Paths::set_more))]
+    fn enter_set(&self, set: u16, tag: u8) -> u16
+        ensures { result ≡ enter_set self.now.steps.now set tag }
+    {
+        let mut next = 0;
+        // It goes over the bits of the set, each by the step there and the one before.
+        for place in 0..self.steps.len() {
+            if self.reaches(set, tag, place) {
+                next += 1 << place;
+            }
         }
+        next
     }
-    true
-}
 
-// The steps that the numbers mean, and some to fill the row.
-fn converted(steps: &[Step]) -> [PathStep; MOST_STEPS]
-    requires { length steps.now ≤ most_steps }
-    ensures { take (length steps.now) result ≡ map step_of steps.now }
-{
-    let mut made = [PathStep {
-        axis: Axis::Child,
-        tag: TagTest::Any,
-    }; MOST_STEPS];
-    for place in 0..steps.len() {
-        made[place] = PathStep::of(steps[place]);
+    // Are all steps matched at an item with this tag?
+    fn all_matched(&self, set: u16, tag: u8) -> bool
+        ensures { result ≡ matches self.now.steps.now set tag }
+    {
+        let last = self.steps.len() - 1;
+        has(set, last) && self.steps[last].fits(tag)
     }
-    made
-}
-
-fn path(steps: &[PathStep; MOST_STEPS], count: usize) -> &[PathStep]
-    requires { count ≤ most_steps }
-    ensures value { result.now ≡ take count steps.now }
-    ensures whole { length result.now ≡ count }
-{
-    &steps[0..count]
-}
-
-// No effect: what a path selects.
-fn law(steps: &[PathStep; MOST_STEPS], count: usize)
-    requires le_count { 1 ≤ count }
-    requires count_le_most_steps { count ≤ most_steps }
-    ensures { PathSelects (take count steps.now) }
-{
-    let _path = path(steps, count);
-}
-
-// Sets of matched steps -------------------------------------------------------------------------------------------
-
-// How many sets there are.
-fn sets(steps: &[PathStep]) -> u16
-    requires { length steps.now ≤ most_steps }
-    ensures { (result ≡ 2 ^ length steps.now) × (result ≤ 2 ^ most_steps) }
-{
-    1 << steps.len()
 }
 
 // Are the first `place` steps matched in this set?
@@ -232,47 +144,125 @@ fn has(set: u16, place: usize) -> bool
     (set >> place) % 2 == 1
 }
 
-// The step behind the first `place` steps.
-fn step_at(steps: &[PathStep], place: usize) -> PathStep
-    requires { place < length steps.now }
-    ensures { result ≡ step_at steps.now place }
-{
-    steps[place]
+// The book --------------------------------------------------------------------------------------------------------
+
+// The path is the first `count` steps, and the others fill the row: it stands in the book itself, so that no path can
+// run out of memory, and books of paths are copied.
+#[derive(Clone, Copy)]
+struct Row {
+    steps: [PathStep; MOST_STEPS],
+    count: usize,
 }
 
-// Inside an item with this tag, are the first `place` steps matched?
-fn reaches(steps: &[PathStep], set: u16, tag: u8, place: usize) -> bool
-    requires steps_len_bound { length steps.now ≤ most_steps }
-    requires place_in_bounds { place < length steps.now }
-    ensures { result ≡ (keeps steps.now set place || adds steps.now set tag place) }
-{
-    let kept = has(set, place) & step_at(steps, place).descends();
-    if place == 0 {
-        return kept;
+impl Row {
+    // The steps that the numbers mean.
+    fn of(given: &[Step]) -> Result<Row, BookFault>
+        requires { length given.now ≤ most_steps }
+        ensures { MatchResult result (λ row. (steps_right given.now ≡ true) × (row.count ≡ length given.now) × (steps_of row ≡ map step_of given.now)) (λ f. (steps_right given.now ≡ false) × (f ≡ PathSteps)) }
+    {
+        let filler = PathStep {
+            axis: Axis::Child,
+            tag: TagTest::Any,
+        };
+        let mut steps = [filler; MOST_STEPS];
+        for (place, step) in given.iter().enumerate() {
+            steps[place] = PathStep::try_from(*step)?;
+        }
+        Ok(Row {
+            steps,
+            count: given.len(),
+        })
     }
-    kept | (has(set, place - 1) & step_at(steps, place - 1).fits(tag))
 }
 
-// The set inside an item with this tag.
-fn enter_set(steps: &[PathStep], set: u16, tag: u8) -> u16
-    requires { length steps.now ≤ most_steps }
-    ensures { result ≡ enter_set steps.now set tag }
-{
-    let mut next = 0;
-    for place in 0..steps.len() {
-        if reaches(steps, set, tag, place) {
-            next += 1 << place;
+#[derive(Clone, Copy)]
+pub struct PathBook {
+    row: Row,
+    ghost some: { 1 ≤ row.count },
+    ghost few: { row.count ≤ most_steps },
+}
+
+impl PathBook {
+    #[tactic(auto, using(crate::proofs::Paths::path_selects))]
+    pub fn new(steps: &[Step]) -> Result<PathBook, BookFault>
+        ensures { MatchResult result (λ b. (path_right steps.now ≡ true) × (steps_of b.row ≡ map step_of steps.now) × PathSelects (steps_of b.row)) (λ f. (path_right steps.now ≡ false) × (f ≡ PathSteps)) }
+    {
+        let count = steps.len();
+        if count < 1 || count > MOST_STEPS {
+            return Err(BookFault::PathSteps);
+        }
+        Ok(PathBook {
+            row: Row::of(steps)?,
+        })
+    }
+
+    fn path(&self) -> Path<'_>
+        ensures { result.steps.now ≡ steps_of self.now.row }
+    {
+        Path {
+            steps: &self.row.steps[..self.row.count],
         }
     }
-    next
 }
 
-// Are all steps matched at an item with this tag?
-fn all_matched(steps: &[PathStep], set: u16, tag: u8) -> bool
-    requires in_bounds { 1 ≤ length steps.now }
-    requires steps_len_bound { length steps.now ≤ most_steps }
-    ensures { result ≡ matches steps.now set tag }
-{
-    let last = steps.len() - 1;
-    has(set, last) & step_at(steps, last).fits(tag)
+// A state below `miss` is a set of matched steps; `miss + 1` is hit.
+impl ShapeBook for PathBook {
+    ghost machine = { λ b. path_machine (steps_of b.row) };
+
+    ghost lawful = { λ b. path_lawful _ (few_steps b.row b.few) };
+
+    fn width(&self) -> u16 {
+        self.path().sets() + 2
+    }
+
+    fn start(&self) -> u16 {
+        1
+    }
+
+    fn enter(&self, state: u16, tag: u8) -> u16 {
+        let path = self.path();
+        let miss = path.sets();
+        if state > miss + 1 || tag >= TAGS {
+            0
+        } else if state < miss {
+            path.enter_set(state, tag)
+        } else {
+            state
+        }
+    }
+
+    fn back(&self, outer: u16, inner: u16, tag: u8) -> u16 {
+        let miss = self.path().sets();
+        if outer > miss + 1 || inner > miss + 1 || tag >= TAGS {
+            0
+        } else if inner < miss {
+            outer
+        } else {
+            inner
+        }
+    }
+
+    fn accepts(&self, state: u16) -> bool {
+        state == self.path().sets() + 1
+    }
+}
+
+impl SelectingBook for PathBook {
+    ghost marks = { λ b. path_marks (steps_of b.row) };
+
+    ghost lawful_marks = { λ b. path_marks_lawful _ };
+
+    fn mark(&self, state: u16, tag: u8) -> u16 {
+        let path = self.path();
+        let miss = path.sets();
+        if state > miss + 1 || tag >= TAGS {
+            0
+        } else if state >= miss {
+            state
+        } else if path.all_matched(state, tag) {
+            miss + 1
+        } else {
+            miss
+        }
+    }
 }

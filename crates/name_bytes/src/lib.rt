@@ -11,12 +11,12 @@ pub const NAME_LIMIT: usize = 64;
 pub fn is_name_start(b: u8) -> bool
     ensures { result ≡ name_start b }
 {
-    b == b':' || b == b'_' || (b >= b'A' && b <= b'Z') || (b >= b'a' && b <= b'z')
+    matches!(b, b':' | b'_' | b'A'..=b'Z' | b'a'..=b'z')
 }
 
 // Whether a name may go on with this byte: one that may begin it, `-`, `.` or a digit.
 pub fn is_name_byte(b: u8) -> bool
     ensures { result ≡ name_byte b }
 {
-    is_name_start(b) || b == b'-' || b == b'.' || (b >= b'0' && b <= b'9')
+    is_name_start(b) || matches!(b, b'-' | b'.' | b'0'..=b'9')
 }

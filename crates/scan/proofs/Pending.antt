@@ -16,7 +16,7 @@ use Rattle.book.specs.Shown.{JustDue}
 use Rattle.book.proofs.ItemLists.{in_left, in_right, in_cases}
 use Rattle.book.proofs.Selections.{opened_on}
 use Rattle.book.proofs.Earliest.{due_opened, due_on, dropped_on, not_two, one_of_three}
-use Rattle.book.proofs.Exchanges.{map_append}
+use Rattle.std.proofs.lemmas.List.{map-append}
 use Rattle.book.proofs.Exact.{plus}
 use Rattle.book.proofs.Steps.{nest_more, opened_more, run_opens_new}
 use Rattle.scan.specs.Tracks.{marked, may, Follows}
@@ -84,7 +84,7 @@ module _ (reach : ℕ → ℕ → Bool) (m : Selecting) (law : Lawful m.shape) (
       -- All that are judged ---------------------------------------------------------------------------------------
 
       items : map item_in (pending reach m s e) ≡ map item_in s.held ++ map item_in (fresh reach m s e)
-      items = map_append item_in (map (onward reach m.shape e) s.held) (fresh reach m s e)
+      items = map-append item_in (map (onward reach m.shape e) s.held) (fresh reach m s e)
           ∙ ap (λ (r : List ℕ). r ++ map item_in (fresh reach m s e)) (items_onward reach m.shape e s.held)
 
       was_held : (i : ℕ) → In i (map item_in s.held) ↔ Held m h i

@@ -12,7 +12,8 @@ use Rattle.book.specs.History.{Bring, Call, itself, EventsSoFar, WatchedSoFar}
 use Rattle.book.specs.Promise.{Exchange, exchange, call_of, orders_of, Promise}
 use Rattle.book.specs.PromiseLaws.{Asked, asked, with_event}
 use Rattle.book.specs.Watch.{WatchExchange, watch_exchange, watch_call, WatchAnswered, WatchKeeps, WatchPromise}
-use Rattle.book.proofs.Exchanges.{map_append, kept_none}
+use Rattle.std.proofs.lemmas.List.{map-append}
+use Rattle.book.proofs.Exchanges.{kept_none}
 use Rattle.book.proofs.History.{watched_more}
 use Rattle.book.proofs.OneAnswer.{one_run}
 use Rattle.book.proofs.Runs.{orders_more, events_on, promise_none, promise_more}
@@ -43,7 +44,7 @@ module _ (reach : ℕ → ℕ → Bool) (m : Selecting) (law : Lawful m.shape) (
       let step = steps_right reach m s q.call q.before law mark_law fits h (orders_of ys) st in
       let g : List Event = with_event h q.call a in
       let at' : EventsSoFar m (map call_of (ys ++ (x ∷ []))) g =
-      subst (λ (l : List Call). EventsSoFar m l g) (sym (map_append call_of ys (x ∷ []))) (events_on m (map call_of ys) h (orders_of ys) x at step.0) in
+      subst (λ (l : List Call). EventsSoFar m l g) (sym (map-append call_of ys (x ∷ []))) (events_on m (map call_of ys) h (orders_of ys) x at step.0) in
       let st' : Stands reach m (model_after reach m s q.call a) g (orders_of (ys ++ (x ∷ []))) =
       subst (Stands reach m (model_after reach m s q.call a) g) (sym (orders_more ys x [])) step.1 in
       subst (Promise m) (append_assoc ys (x ∷ []) (exchanges_from reach m (model_after reach m s q.call a) qs))
@@ -83,7 +84,7 @@ module _ (reach : ℕ → ℕ → Bool) (m : Machine) (law : Lawful m) (fits : F
       let step = watch_steps_right reach m s e law fits h st in
       let g : List Event = watch_event h e a in
       let at' : WatchedSoFar m (map watch_call (ys ++ (x ∷ []))) g =
-      subst (λ (l : List Event). WatchedSoFar m l g) (sym (map_append watch_call ys (x ∷ []))) (watched_more m (map watch_call ys) e h g at (answered_brings m h e a step.0)) in
+      subst (λ (l : List Event). WatchedSoFar m l g) (sym (map-append watch_call ys (x ∷ []))) (watched_more m (map watch_call ys) e h g at (answered_brings m h e a step.0)) in
       subst (WatchPromise m) (append_assoc ys (x ∷ []) (verdicts_from reach m (watch_after reach m s e a) es))
       (verdicts_promise (ys ++ (x ∷ [])) g (watch_after reach m s e a) es (watch_promise_more m ys x h p at step.0) at' step.1)
 

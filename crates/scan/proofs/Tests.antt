@@ -1,5 +1,5 @@
 -- The tests tell the lines of the table of checks, and the first that is met refuses. Assumes nothing.
-use Rattle.std.proofs.Common.{◌≡◌, ℕ, ◌≤◌, Bool, true, false, cond, eqb, leb, ◌↔◌, List, [], ◌∷◌, length, Ok, Err, Result, sym, refl, ◌∙◌, subst, inl, inr, arith}
+use Rattle.std.proofs.Common.{◌≡◌, ℕ, ◌≤◌, Bool, true, false, cond, eqb, leb, ◌↔◌, List, [], ◌∷◌, length, Ok, Err, Result, sym, refl, subst, inl, inr, arith}
 use Rattle.std.proofs.lemmas.Bool.{leb-true, le-leb, eqb-true, eqb-false, eq-eqb, ne_eqb, not-true, not_from_false, both_ways}
 use Rattle.book.specs.declared.event.Event.{Event}
 use Rattle.book.specs.declared.event.Event.TheVariants.{Open, Close, End}
@@ -10,8 +10,6 @@ use Rattle.book.specs.Catalogue.{Nest, within, over, broken, nest, opened}
 use Rattle.book.specs.Machines.{Machine}
 use Rattle.book.specs.Checks.{OnOpen, OnClose, OnEnd, SharedMet, NoneMet, Topmost}
 use Rattle.book.proofs.Nesting.{within_not_over, within_not_broken, same_open}
-use Rattle.book.proofs.Exchanges.{cons_not_nil}
-use Rattle.book.proofs.Telling.{same_head}
 use Rattle.scan.specs.Tests.{is_over, open_tags, is_bare, is_open, is_other, on_open, on_close, on_end, shared_test, checked}
 
 -- a test tells a fact
@@ -72,21 +70,21 @@ is_deep_tells broken = never (λ z. within_not_broken z.0 (sym z.1))
 
 is_bare_tells : (n : Nest) → Tells (is_bare n) (n ≡ within [])
 is_bare_tells (within []) = (λ y. refl, λ y. refl)
-is_bare_tells (within (u ∷ ts)) = never (λ y. cons_not_nil u ts (same_open (u ∷ ts) [] y))
+is_bare_tells (within (u ∷ ts)) = never (λ y. cc)
 is_bare_tells over = never (λ y. within_not_over [] (sym y))
 is_bare_tells broken = never (λ y. within_not_broken [] (sym y))
 
 is_other_tells : (t : ℕ) (n : Nest) → Tells (is_other t (open_tags n)) ((u : ℕ) × (ts : List ℕ) × (n ≡ within (u ∷ ts)) × (u ≡ t → ⊥))
-is_other_tells t (within []) = never (λ z. cons_not_nil z.0 z.1 (same_open (z.0 ∷ z.1) [] (sym z.2)))
+is_other_tells t (within []) = never (λ z. cc z.2)
 is_other_tells t (within (u ∷ ts)) = (
   λ y. (u, ts, refl, eqb-false u t (not-true (eqb u t) y)),
-  λ z. not_from_false (eqb u t) (ne_eqb u t (λ e. z.3 (same_head z.0 u z.1 ts (same_open (z.0 ∷ z.1) (u ∷ ts) (sym z.2)) ∙ e))),
+  λ z. not_from_false (eqb u t) (ne_eqb u t (λ e. z.3 (cc z.2))),
 )
 is_other_tells t over = never (λ z. within_not_over (z.0 ∷ z.1) (sym z.2))
 is_other_tells t broken = never (λ z. within_not_broken (z.0 ∷ z.1) (sym z.2))
 
 is_open_tells : (n : Nest) → Tells (is_open (open_tags n)) ((u : ℕ) × (ts : List ℕ) × (n ≡ within (u ∷ ts)))
-is_open_tells (within []) = never (λ z. cons_not_nil z.0 z.1 (same_open (z.0 ∷ z.1) [] (sym z.2)))
+is_open_tells (within []) = never (λ z. cc z.2)
 is_open_tells (within (u ∷ ts)) = (λ y. (u, ts, refl), λ z. refl)
 is_open_tells over = never (λ z. within_not_over (z.0 ∷ z.1) (sym z.2))
 is_open_tells broken = never (λ z. within_not_broken (z.0 ∷ z.1) (sym z.2))

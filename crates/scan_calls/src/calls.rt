@@ -37,7 +37,6 @@ impl<B: SelectingBook> Scan<B> {
     pub fn send(&mut self, call: Event, orders: &mut [Order]) -> Result<Totals, Refusal>
         ensures { Called call self.old self.new orders.old orders.new result }
     {
-        self.ready.book().marked();
         match call {
             Event::Open(tag) => self.make_open(tag, orders),
             Event::Close(tag) => self.make_close(tag, orders),

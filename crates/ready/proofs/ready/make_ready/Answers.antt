@@ -7,7 +7,7 @@ use Rattle.ready.proofs.ready.make_ready.Goals as goal
 pub returns : goal.returns
 returns g c =
     let m = g.B.ShapeBook.machine c.args.book in
-    let law = g.B.ShapeBook.lawful c.args.book in
+    let law = g.met.B.ShapeBook.lawful c.args.book in
     let reach = lies c.find_pairs-reach.result.rows in
     let lead = c.find_pairs-reach.ensures in
     let fit = fits m reach lead in

@@ -17,7 +17,7 @@ loop-smaller g c =
     let post = c.round.ensures in
     let new = c.round.new.self in
     let m = g.B.ShapeBook.machine new.book.now in
-    let law = g.B.ShapeBook.lawful new.book.now in
+    let law = g.met.B.ShapeBook.lawful new.book.now in
     let same = ap (λ b. g.B.ShapeBook.machine b) (ap (λ b. b.now) post.same ∙ c.loop.invariant) in
     let more = uncovered m law (lies new.asked.rows) (lies new.table.rows) (search_found m law (lies new.table.rows) new.found) (λ cover. true≢false (sym (post.last.1 cover) ∙ c.loop-test.true)) in
     lacks_lt (lies c.loop.search.table.rows) (lies new.table.rows) post.growing (g.B.ShapeBook.machine c.args.book.now).width (g.B.ShapeBook.machine c.args.book.now).width more.0 more.1
@@ -29,7 +29,7 @@ returns g c =
     let post = c.round.ensures in
     let new = c.round.new.self in
     let m = g.B.ShapeBook.machine new.book.now in
-    let law = g.B.ShapeBook.lawful new.book.now in
+    let law = g.met.B.ShapeBook.lawful new.book.now in
     subst (λ (k : Machine). RowsLead k (lies new.table.rows)) (ap (λ b. g.B.ShapeBook.machine b) (ap (λ b. b.now) post.same ∙ c.loop.invariant))
     (rows_lead m law (lies new.table.rows) (search_found m law (lies new.table.rows) new.found)
     (answered_all m law (lies new.table.rows) (lies new.asked.rows) (post.last.0 c.loop-test.false) new.answered))

@@ -13,7 +13,7 @@ loop-before-init g c q a = absurd (both_ways _ (c.empty-useful.ensures.none q) a
 pub returns-then-is_subset : goal.returns-then-is_subset
 returns-then-is_subset g c lead q =
     let m = g.B.ShapeBook.machine c.args.book.now in
-    let law = g.B.ShapeBook.lawful c.args.book.now in
+    let law = g.met.B.ShapeBook.lawful c.args.book.now in
     let useful = has c.loop-before.useful.words in (
       (λ a. let b = c.loop-before.invariant q a in (b.0, b.1 lead)),
       λ a. useful_found m (lies c.args.reach.now.rows) lead useful law

@@ -8,7 +8,7 @@ use Rattle.ready.proofs.useless.useful_before.Goals as goal
 pub returns : goal.returns
 returns g c =
     let m = g.B.ShapeBook.machine c.args.book.now in
-    let law = g.B.ShapeBook.lawful c.args.book.now in
+    let law = g.met.B.ShapeBook.lawful c.args.book.now in
     members_below c.of.result.words m.width (λ q. (p : ℕ) × (lies c.args.reach.now.rows q p ≡ true) × (p < m.width) × Stops m (has c.args.useful.now.words) p)
     (λ q a. omega (arith, c.of.ensures.within q a, c.width.ensures))
     (λ q lt.

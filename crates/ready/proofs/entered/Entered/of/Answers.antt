@@ -15,7 +15,7 @@ loop-state-preserved g c = (simp length-set c.loop-state.invariant.0, below_more
     enter = (g.B.ShapeBook.machine c.args.book.now).enter
 
     long : i < length rows
-    long = omega (arith, c.loop-state.invariant.0, (g.B.ShapeBook.lawful c.args.book.now).narrow, c.width-state-end.ensures)
+    long = omega (arith, c.loop-state.invariant.0, (g.met.B.ShapeBook.lawful c.args.book.now).narrow, c.width-state-end.ensures)
 
     old : (k : ℕ) → k < i → (t : ℕ) → t < tags → get_or (get_or (set rows i c.from_fn.result) k []) t 0 ≡ enter k t
     old k below t ht =

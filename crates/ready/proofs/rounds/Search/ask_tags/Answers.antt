@@ -25,7 +25,7 @@ ask_row-requires g c =
     record {
       outer_in = outer-in;
       tag_in = c.loop-tag-test.true;
-      leads = λ p h. ((search_found m (g.B.ShapeBook.lawful now.book.now) (lies now.table.rows) now.found).sound _ p
+      leads = λ p h. ((search_found m (g.met.B.ShapeBook.lawful now.book.now) (lies now.table.rows) now.found).sound _ p
           (so-far.growing _ p (c.requires.known _ p (ap (λ (q : ℕ). lies c.args.fresh.now.rows q p) (sym inside) ∙ sym (c.row-new.ensures p) ∙ h)))).1;
     }
 

@@ -1,7 +1,0 @@
-use Rattle.std.proofs.Common.{◌≡◌, ◌||◌}
-use Rattle.kinds.specs.Path.{set_of, keeps, adds}
-use Rattle.kinds.proofs.path.enter_set.Given as goal
-
--- the places so far
-abbrev pub invariant-loop-place : goal.invariant-loop-place
-invariant-loop-place l = l.next ≡ set_of (λ j. keeps l.steps l.set j || adds l.steps l.set l.tag j) l.place
