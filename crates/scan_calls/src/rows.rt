@@ -18,6 +18,7 @@ use book::shape_book::ShapeBook;
 use cells::{Cell, cell_at};
 use ready::ready::Ready;
 
+// A row is lent through a local slice `rows`, which the check follows; a loan of `self.cells[depth]` it does not cover yet.
 impl Rows {
     // Before any event there is the base run alone.
     pub(crate) fn begin(base: Cell) -> Rows
@@ -47,13 +48,13 @@ impl Rows {
         ensures base { base_of self.new ≡ moved (reach_of ready.now) (machine_of ready.now) (Open tag) (base_of self.old) }
         ensures held { held_of self.new ≡ map (onward (reach_of ready.now) (machine_of ready.now) (Open tag)) (held_of self.old) ++ (holding_new item since (marked (reach_of ready.now) (selecting (machine_of ready.now) (B.marks ready.now.book)) tag (base_of self.old)) ∷ []) }
     {
-        let d = self.depth;
-        let n = self.count;
+        let depth = self.depth;
+        let count = self.count;
         let rows = &mut self.cells;
-        let (outer, inner) = rows.split_at_mut(d + 1);
-        open_cells(ready, &outer[d], &mut inner[0], n, item, since, tag);
-        self.depth = d + 1;
-        self.count = n + 1;
+        let (outer, inner) = rows.split_at_mut(depth + 1);
+        open_cells(ready, &outer[depth], &mut inner[0], count, item, since, tag);
+        self.depth = depth + 1;
+        self.count = count + 1;
     }
 
     // The items in use are judged at the event: how many orders; those that are held stay in use. So it is also in a row
@@ -72,11 +73,11 @@ impl Rows {
         ensures base { cell_at (row_of self.new) 0 ≡ cell_at (row_of self.old) 0 }
         ensures settled { (e : ℕ) → e ≤ self.old.depth → Settled (machine_of ready.now) call event (map (held_in self.old.cells e) (item_cells self.old)) orders.old orders.new result (map (held_in self.new.cells e) (item_cells self.new)) self.new.count }
     {
-        let d = self.depth;
-        let n = self.count;
+        let depth = self.depth;
+        let count = self.count;
         let rows = &mut self.cells;
-        let sent = write_orders(ready, &rows[d][1..n], call, event, orders);
-        let left = keep_held(ready, &mut rows[d][1..n], call);
+        let sent = write_orders(ready, &rows[depth][1..count], call, event, orders);
+        let left = keep_held(ready, &mut rows[depth][1..count], call);
         self.count = left + 1;
         sent
     }
@@ -110,11 +111,11 @@ impl Rows {
         ensures wide { (self.old.count ≤ length (row_of self.old)) × (self.old.count ≤ length (row_of self.new)) }
         ensures left { (k : ℕ) → k < self.old.count → seen (cell_at (row_of self.new) k) ≡ left_seen (machine_of ready.now) tag (slice_index_or self.old.cells (self.old.depth - 1) []) (seen (cell_at (row_of self.old) k)) }
     {
-        let d = self.depth;
-        let n = self.count;
+        let depth = self.depth;
+        let count = self.count;
         let rows = &mut self.cells;
-        let (outer, inner) = rows.split_at_mut(d);
-        leave_cells(ready, &outer[d - 1], &mut inner[0], n, tag);
+        let (outer, inner) = rows.split_at_mut(depth);
+        leave_cells(ready, &outer[depth - 1], &mut inner[0], count, tag);
     }
 
     // The cells in use become those of the level around.
@@ -126,12 +127,12 @@ impl Rows {
         ensures wide { (self.old.count ≤ length (row_of self.old)) × (self.old.count ≤ length (row_of self.new)) }
         ensures lowered { (k : ℕ) → k < self.old.count → cell_at (row_of self.new) k ≡ cell_at (row_of self.old) k }
     {
-        let d = self.depth;
-        let n = self.count;
+        let depth = self.depth;
+        let count = self.count;
         let rows = &mut self.cells;
-        let (outer, inner) = rows.split_at_mut(d);
-        copy_cells(&inner[0][..n], &mut outer[d - 1]);
-        self.depth = d - 1;
+        let (outer, inner) = rows.split_at_mut(depth);
+        copy_cells(&inner[0][..count], &mut outer[depth - 1]);
+        self.depth = depth - 1;
     }
 
     // How many items would be held, were an item of tag `tag` opened?
@@ -148,41 +149,41 @@ impl Rows {
     }
 }
 
-// The runs of the first n cells go on inside an item of tag `tag`, and behind them comes that of the item itself. That the
+// The runs of the first `count` cells go on inside an item of tag `tag`, and behind them comes that of the item itself. That the
 // cells are there is said again: how long a row is, is known only where it is lent.
 fn open_cells<B: SelectingBook>(
     ready: &Ready<B>,
     around: &[Cell],
     inside: &mut [Cell],
-    n: usize,
+    count: usize,
     item: u32,
     since: u32,
     tag: u8,
 )
-    requires { (1 ≤ n) × (n ≤ 129) × (n ≤ length around.now) × (n < length inside.old) }
-    ensures wide { n ≤ length around.now }
-    ensures entered { (k : ℕ) → k < n → seen (cell_at inside.new k) ≡ entered_seen (reach_of ready.now) (machine_of ready.now) k tag (seen (cell_at around.now k)) }
-    ensures new { seen (cell_at inside.new n) ≡ beside_seen item since (B.marks ready.now.book (seen (cell_at around.now 0)).level.state tag) (entered_seen (reach_of ready.now) (machine_of ready.now) 0 tag (seen (cell_at around.now 0))) }
+    requires { (1 ≤ count) × (count ≤ 129) × (count ≤ length around.now) × (count < length inside.old) }
+    ensures wide { count ≤ length around.now }
+    ensures entered { (k : ℕ) → k < count → seen (cell_at inside.new k) ≡ entered_seen (reach_of ready.now) (machine_of ready.now) k tag (seen (cell_at around.now k)) }
+    ensures new { seen (cell_at inside.new count) ≡ beside_seen item since (B.marks ready.now.book (seen (cell_at around.now 0)).level.state tag) (entered_seen (reach_of ready.now) (machine_of ready.now) 0 tag (seen (cell_at around.now 0))) }
 {
-    for (place, cell) in around[..n].iter().enumerate() {
+    for (place, cell) in around[..count].iter().enumerate() {
         inside[place] = cell.entered(ready, place as u8, tag);
     }
     let state = ready.book().mark(around[0].state(), tag);
-    inside[n] = inside[0].beside(item, since, state);
+    inside[count] = inside[0].beside(item, since, state);
 }
 
-// The runs of the first n of these cells leave their item, which has the tag `tag`.
+// The runs of the first `count` of these cells leave their item, which has the tag `tag`.
 fn leave_cells<B: ShapeBook>(
     ready: &Ready<B>,
     around: &[Cell],
     inside: &mut [Cell],
-    n: usize,
+    count: usize,
     tag: u8,
 )
-    requires { n ≤ length inside.old }
-    ensures { (k : ℕ) → k < n → seen (cell_at inside.new k) ≡ left_seen (machine_of ready.now) tag around.now (seen (cell_at inside.old k)) }
+    requires { count ≤ length inside.old }
+    ensures { (k : ℕ) → k < count → seen (cell_at inside.new k) ≡ left_seen (machine_of ready.now) tag around.now (seen (cell_at inside.old k)) }
 {
-    for cell in inside[..n].iter_mut() {
+    for cell in inside[..count].iter_mut() {
         *cell = cell.left(ready, around, tag);
     }
 }

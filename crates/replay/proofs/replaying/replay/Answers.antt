@@ -1,4 +1,4 @@
-use Rattle.std.proofs.Common.{◌≡◌, ℕ, ◌<◌, Bool, List, map, length, get_or, take, sym, refl, ap, ◌∙◌, subst, arith}
+use Rattle.std.proofs.Common.{◌≡◌, ℕ, ◌<◌, Bool, List, map, length, get_or, take, sym, ap, ◌∙◌, subst, arith}
 use Rattle.ready.specs.declared.ready.Ready.{Ready}
 use Rattle.book.specs.Machines.{Selecting, selecting, LawfulMarks, Lawful}
 use Rattle.book.specs.Tables.{Fits}
@@ -9,9 +9,6 @@ use Rattle.replay.specs.declared.exchange.Exchange.{Exchange}
 use Rattle.replay.specs.Replays.{asked_by, standing, onto, Made, Replayed}
 use Rattle.replay.proofs.CallByCall.{made_more, rest_more, model_more, all_shown, replayed}
 use Rattle.replay.proofs.replaying.replay.Goals as goal
-
-pub loop-x-init : goal.loop-x-init
-loop-x-init g c = record { same = refl; model = refl; made = λ k lt d. absurd (omega arith); rest = λ k le d. refl }
 
 pub loop-x-preserved : goal.loop-x-preserved
 loop-x-preserved g c =

@@ -9,7 +9,7 @@ use Rattle.scan_calls.proofs.rows.leave_cells.Goals as goal
 
 pub loop-cell-preserved : goal.loop-cell-preserved
 loop-cell-preserved g c =
-    let first : List Cell = take c.args.n c.args.inside.now in
+    let first : List Cell = take c.args.count c.args.inside.now in
     let cells : List Cell = c.loop-cell.cell-items in
     let k : ℕ = c.loop-cell.cell-index in
     let so_far = c.loop-cell.invariant in
@@ -22,9 +22,9 @@ loop-cell-preserved g c =
 
 pub returns : goal.returns
 returns g c = λ k lt.
-    let first : List Cell = take c.args.n c.args.inside.now in
+    let first : List Cell = take c.args.count c.args.inside.now in
     let cells : List Cell = c.loop-cell.cell-items in
-    let long : length first ≡ c.args.n = length-take-le c.args.n c.args.inside.now c.requires in
+    let long : length first ≡ c.args.count = length-take-le c.args.count c.args.inside.now c.requires in
     let before : k < length cells = omega arith in
-    ap seen (get_or-append cells (drop c.args.n c.args.inside.now) no_cell k before) ∙ c.loop-cell.invariant.changed k (omega arith)
-    ∙ ap (λ (x : Cell). left_seen (machine_of c.args.ready.now) c.args.tag c.args.around.now (seen x)) (get_or-take c.args.n c.args.inside.now k no_cell lt)
+    ap seen (get_or-append cells (drop c.args.count c.args.inside.now) no_cell k before) ∙ c.loop-cell.invariant.changed k (omega arith)
+    ∙ ap (λ (x : Cell). left_seen (machine_of c.args.ready.now) c.args.tag c.args.around.now (seen x)) (get_or-take c.args.count c.args.inside.now k no_cell lt)

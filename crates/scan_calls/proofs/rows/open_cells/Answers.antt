@@ -11,12 +11,12 @@ pub loop-place-preserved : goal.loop-place-preserved
 loop-place-preserved g c =
     let entered : ℕ → Cell → Type 0 = (λ k x. seen x ≡ entered_seen (reach_of c.args.ready.now) (machine_of c.args.ready.now) k c.args.tag (seen (cell_at c.args.around.now k))) in
     let place : ℕ = c.loop-place.place in
-    let all : length (take c.args.n c.args.around.now) ≡ c.args.n = length-take-le c.args.n c.args.around.now (omega arith) in
-    let below : place < c.args.n = (let z = c.loop-place-test.true in omega arith) in
-    let read : cell_at (take c.args.n c.args.around.now) place ≡ cell_at c.args.around.now place = get_or-take c.args.n c.args.around.now place no_cell below in
+    let all : length (take c.args.count c.args.around.now) ≡ c.args.count = length-take-le c.args.count c.args.around.now (omega arith) in
+    let below : place < c.args.count = (let z = c.loop-place-test.true in omega arith) in
+    let read : cell_at (take c.args.count c.args.around.now) place ≡ cell_at c.args.around.now place = get_or-take c.args.count c.args.around.now place no_cell below in
     let room : place < length c.loop-place.inside = omega arith in
     set_more c.loop-place.inside place _ room entered c.loop-place.invariant
-    (c.entered.ensures ∙ ap (λ (x : Cell). entered_seen (reach_of c.args.ready.now) (machine_of c.args.ready.now) place c.args.tag (seen x)) (get_or_default (take c.args.n c.args.around.now) place _ no_cell c.loop-place-test.true ∙ read))
+    (c.entered.ensures ∙ ap (λ (x : Cell). entered_seen (reach_of c.args.ready.now) (machine_of c.args.ready.now) place c.args.tag (seen x)) (get_or_default (take c.args.count c.args.around.now) place _ no_cell c.loop-place-test.true ∙ read))
 
 pub returns : goal.returns
 returns g c =
@@ -24,7 +24,7 @@ returns g c =
     let reach : ℕ → ℕ → Bool = reach_of c.args.ready.now in
     let t : ℕ = c.args.tag in
     let cells : List Cell = c.loop-place.inside in
-    let n : ℕ = c.args.n in
+    let n : ℕ = c.args.count in
     let all : length (take n c.args.around.now) ≡ n = length-take-le n c.args.around.now (omega arith) in
     let some : 0 < length c.args.around.now = omega arith in
     let room : n < length cells = omega arith in

@@ -1,6 +1,6 @@
 use Rattle.std.proofs.Common.{sym, ◌∙◌, arith}
 use Rattle.std.proofs.lemmas.List.{get_or_default}
-use Rattle.std.proofs.lemmas.List.Filters.{FiltersInPlace-all, FiltersInPlace-more_no, FiltersInPlace-more_set}
+use Rattle.std.proofs.lemmas.List.Filters.{FiltersInPlace-more_no, FiltersInPlace-more_set}
 use Rattle.scan_calls.proofs.settling.keep_held.Goals as goal
 use Rattle.scan_calls.proofs.settling.keep_held.Goals.{then-is_held, else-is_held}
 
@@ -10,6 +10,3 @@ loop-i-preserved g c =
       | then-is_held w ↦ rw (w.cells-is, w.left-is) (FiltersInPlace-more_set c.loop-i.invariant (omega arith) (sym c.is_held.ensures ∙ w.if-is_held.true) (get_or_default c.loop-i.cells c.loop-i.i _ _ (omega arith)))
       | else-is_held w ↦ rw (w.cells-is, w.left-is) (FiltersInPlace-more_no c.loop-i.invariant (omega arith) (sym c.is_held.ensures ∙ w.if-is_held.false) (get_or_default c.loop-i.cells c.loop-i.i _ _ (omega arith)))
     ]
-
-pub returns : goal.returns
-returns g c = record { within = omega arith; kept = FiltersInPlace-all c.loop-i.invariant c.loop-i-test.false }

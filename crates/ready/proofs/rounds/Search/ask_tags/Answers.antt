@@ -26,7 +26,7 @@ ask_row-requires g c =
       outer_in = outer-in;
       tag_in = c.loop-tag-test.true;
       leads = λ p h. ((search_found m (g.met.B.ShapeBook.lawful now.book.now) (lies now.table.rows) now.found).sound _ p
-          (so-far.growing _ p (c.requires.known _ p (ap (λ (q : ℕ). lies c.args.fresh.now.rows q p) (sym inside) ∙ sym (c.row-new.ensures p) ∙ (and_parts (has c.row-new.result.words p) _ (sym (c.without.ensures p) ∙ h)).0)))).1;
+          (so-far.growing _ p (c.requires.known _ p (ap (λ (q : ℕ). lies c.args.fresh.now.rows q p) (sym inside) ∙ sym (c.row-new.ensures p) ∙ h)))).1;
     }
 
 pub loop-tag-preserved : goal.loop-tag-preserved

@@ -3,18 +3,15 @@ use Rattle.scan_calls.proofs.scanning.Scan.send.Goals as goal
 
 pub returns-in-Open : goal.returns-in-Open
 returns-in-Open g c =
-    let s = c.args.self.now in
-    called c.args.call _ c.in-Open.is s _ _ _ _ (g.met.B.ShapeBook.lawful s.ready.book)
-    (g.met.B.SelectingBook.lawful_marks s.ready.book) c.make_open.ensures
+    let book = c.args.self.now.ready.book in
+    called c.args.call _ c.in-Open.is c.args.self.now _ _ _ _ (g.met.B.ShapeBook.lawful book) (g.met.B.SelectingBook.lawful_marks book) c.make_open.ensures
 
 pub returns-in-Close : goal.returns-in-Close
 returns-in-Close g c =
-    let s = c.args.self.now in
-    called c.args.call _ c.in-Close.is s _ _ _ _ (g.met.B.ShapeBook.lawful s.ready.book)
-    (g.met.B.SelectingBook.lawful_marks s.ready.book) c.make_close.ensures
+    let book = c.args.self.now.ready.book in
+    called c.args.call _ c.in-Close.is c.args.self.now _ _ _ _ (g.met.B.ShapeBook.lawful book) (g.met.B.SelectingBook.lawful_marks book) c.make_close.ensures
 
 pub returns-in-End : goal.returns-in-End
 returns-in-End g c =
-    let s = c.args.self.now in
-    called c.args.call _ c.in-End.is s _ _ _ _ (g.met.B.ShapeBook.lawful s.ready.book)
-    (g.met.B.SelectingBook.lawful_marks s.ready.book) c.make_end.ensures
+    let book = c.args.self.now.ready.book in
+    called c.args.call _ c.in-End.is c.args.self.now _ _ _ _ (g.met.B.ShapeBook.lawful book) (g.met.B.SelectingBook.lawful_marks book) c.make_end.ensures

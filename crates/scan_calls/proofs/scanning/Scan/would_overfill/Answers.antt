@@ -1,4 +1,4 @@
-use Rattle.std.proofs.Common.{ℕ, suc, ◌≤◌, ltb, length, sym, ap, arith}
+use Rattle.std.proofs.Common.{ℕ, ◌≤◌, length, sym, arith}
 use Rattle.std.proofs.lemmas.Bool.{le-ltb}
 use Rattle.book.specs.declared.event.Event.TheVariants.{Open}
 use Rattle.book.specs.Limits.{most_held}
@@ -17,6 +17,3 @@ returns-then-self-le-MOST_HELD g c =
     let few : n ≤ s.rows.count = few_held (table_of s) m.shape c.args.tag s.rows.cells s.rows.depth s.rows.count some _ in
     let small : n ≤ most_held = (let z = c.if-self-le-MOST_HELD.true in omega arith) in
     sym (le-ltb most_held n small)
-
-pub returns : goal.returns
-returns g c = let s = c.args.self.now in ap (ltb most_held) (c.held_inside.ensures (suc s.opened) (suc s.events))
