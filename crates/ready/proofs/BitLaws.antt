@@ -6,7 +6,7 @@ use mir.Syntax.{w64}
 use Rattle.std.specs.Int.{bit_at, trailing_zeros}
 use Rattle.std.specs.Int.RustNames.{bit_xor}
 use Rattle.std.specs.List.{zip, AllWithin, HoldsAt}
-use Rattle.std.proofs.lemmas.Nat.Bits.{bit_at-lt, bit_at-zero, bit_at_and, bit_at_or, bit_at_xor, bit_at_set_same, bit_at_set_other, bit_at-trailing_zeros, same_from_bits_below, shr_and_one}
+use Rattle.std.proofs.lemmas.Nat.Bits.{bit_at-lt, bit_at-zero, bit_at_and, bit_at_or, bit_at_xor, bit_at_set_same, bit_at_set_other, bit_at-trailing_zeros, same_from_bits_below}
 use Rattle.std.proofs.lemmas.Slice.Zip.{get_or-zip, length-zip}
 use Rattle.std.proofs.lemmas.Bool.{false≢true, and_parts, or_right, cases_lt, both_ways, eqb-true, cases_eq, cases_Bool, eq-eqb, ne_eqb}
 use Rattle.ready.specs.Sets.{has, Part, Meeting}
@@ -37,10 +37,6 @@ has_zeros words h q = has_nothing words q (zeros_at words h (q / 64))
 -- a word past the end has no member
 pub has_past : (words : List ℕ) (q : ℕ) → length words ≤ q / 64 → has words q ≡ false
 has_past words q h = has_nothing words q (get_or-eq_default words 0 h)
-
--- the shifted word's lowest bit
-pub has_read : (words : List ℕ) (q : ℕ) → eqb (bit_and (word words (q / 64) / 2 ^ (q % 64)) 1) 1 ≡ has words q
-has_read words q = ap (λ (x : ℕ). eqb x 1) (shr_and_one (word words (q / 64)) (q % 64))
 
 pub or_none : (x : Bool) → (x || false) ≡ x
 or_none true = refl

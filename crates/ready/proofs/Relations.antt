@@ -1,12 +1,12 @@
 -- What a search for pairs has found: at first, with one pair more, and where every question has been asked.
 -- Assumes nothing.
-use Rattle.std.proofs.Common.{◌≡◌, ℕ, ◌<◌, true, false, cond, ◌&&◌, eqb, ltb, ◌⊎◌, sym, refl, ◌∙◌, subst, inl, inr, arith}
-use Rattle.std.proofs.lemmas.Bool.{cases_Bool, both_ways, or_cases, or_left, or_right, and_parts, and_from, lt-ltb, ltb-true, eqb-true, eq-eqb, cond-true, cond-false}
+use Rattle.std.proofs.Common.{◌≡◌, ℕ, ◌<◌, true, false, ◌&&◌, eqb, ltb, ◌⊎◌, sym, refl, ◌∙◌, subst, inl, inr, arith}
+use Rattle.std.proofs.lemmas.Bool.{cases_Bool, both_ways, or_cases, or_left, or_right, and_parts, and_from, lt-ltb, ltb-true, eqb-true, eq-eqb}
 use Rattle.book.specs.Limits.{tags}
 use Rattle.book.specs.Machines.{Machine, Lawful}
 use Rattle.book.specs.Rows.{Forest, none, item, tagged, through, Reach}
 use Rattle.ready.specs.Pairs.{Rel, joined, Covering}
-use Rattle.ready.specs.Rounds.{RowsLead, Grown, Found, FreshAnswers, Answered}
+use Rattle.ready.specs.Rounds.{RowsLead, Grown, Found, Answered}
 use Rattle.book.specs.Tables.{Fits}
 use Rattle.book.proofs.Rows.{reach_here, reach_then, reach_item}
 use Rattle.book.proofs.Ranges.{enter_below, back_below, through_below, reach_below}
@@ -71,21 +71,9 @@ module _ (m : Machine) (r s : Rel) (from to : ℕ) (e : (q p : ℕ) → s q p �
 
 -- One question -------------------------------------------------------------------------------------------------------
 
--- s is r with the answer to one question, which it may have had before
+-- s is r with the answer to one question
 module _ (m : Machine) (law : Lawful m) (r s : Rel) (found : Found m r) (q p t : ℕ) (hq : q < m.width) (ht : t < tags)
     (lead : Reach m (m.enter q t) p) where
-  asked_had : r q (m.back q p t) ≡ true → ((x y : ℕ) → s x y ≡ r x y)
-      → Found m s × Grown r s × (s q (m.back q p t) ≡ true)
-  asked_had has e = (
-    record {
-      sound = λ x y a. found.sound x y (sym (e x y) ∙ a);
-      reflexive = λ x h. e x x ∙ found.reflexive x h;
-      transitive = λ x k y a b. e x y ∙ found.transitive x k y (sym (e x k) ∙ a) (sym (e k y) ∙ b);
-    },
-    (λ x y a. e x y ∙ a),
-    e q (m.back q p t) ∙ has,
-  )
-
   pub asked_new : ((x y : ℕ) → s x y ≡ joined r m.width q (m.back q p t) x y)
       → Found m s × Grown r s × (s q (m.back q p t) ≡ true)
   asked_new e =
@@ -94,13 +82,6 @@ module _ (m : Machine) (law : Lawful m) (r s : Rel) (found : Found m r) (q p t :
         joined_grown m r s q (m.back q p t) e,
         joined_has m r s q (m.back q p t) e found hq to,
       )
-
-  pub asked_one : ((x y : ℕ) → s x y ≡ cond (r q (m.back q p t)) (r x y) (joined r m.width q (m.back q p t) x y))
-      → Found m s × Grown r s × (s q (m.back q p t) ≡ true)
-  asked_one e = elim (cases_Bool (r q (m.back q p t))) [
-    | inl a ↦ asked_had a (λ x y. e x y ∙ cond-true (r q (m.back q p t)) (r x y) _ a)
-    | inr a ↦ asked_new (λ x y. e x y ∙ cond-false (r q (m.back q p t)) (r x y) _ a)
-  ]
 
 -- Every question -----------------------------------------------------------------------------------------------------
 
@@ -127,14 +108,6 @@ module _ (m : Machine) (law : Lawful m) (r : Rel) (found : Found m r) (all : Ans
 
   pub rows_lead : RowsLead m r
   rows_lead q p = (found.sound q p, λ a. subst (λ (x : ℕ). r q x ≡ true) a.1.2 (complete a.1.0 q a.0 a.1.1))
-
--- the fresh inner states have been asked about, and the others before
-pub answered_more : (m : Machine) (r s asked fresh : Rel) → Grown r s → Answered m r asked
-    → ((q t : ℕ) → q < m.width → t < tags → FreshAnswers m fresh asked s q t)
-    → Answered m s fresh
-answered_more m r s asked fresh more old new q t hq ht p hp h =
-    elim (cases_Bool (asked (m.enter q t) p))
-    [ inl a ↦ more _ _ (old q t hq ht p hp a) | inr a ↦ new q t hq ht p hp (h, a) ]
 
 -- where the fresh pairs are all there are
 pub answered_all : (m : Machine) → Lawful m → (s fresh : Rel) → Covering m.width fresh s → Answered m s fresh → Answered m s s

@@ -43,12 +43,6 @@ pub record Finding (m : Machine) (first asked r : Rel) : Type 0 where
   pub growing : Grown first r
   pub answered : Answered m r asked
 
--- What a round makes of r, where the pairs of `asked` were asked about before it.
-pub record Round (m : Machine) (asked r s : Rel) : Type 0 where
-  pub found : Found m s
-  pub growing : Grown r s
-  pub answers : (q t : ℕ) → q < m.width → t < tags → FreshAnswers m r asked s q t
-
 -- The order is free: a search that has asked about each of its pairs has found what is wanted, and so the same as any
 -- other search, whatever each began with and in whatever order it went.
 abbrev pub OrderIsFree : Type 0

@@ -41,7 +41,7 @@ impl StateSet {
     pub fn contains(&self, state: u16) -> bool
         ensures { result ≡ has self.now.words state }
     {
-        let Some(word) = self.words.get(state as usize / 64) else {
+        let Some(word) = self.words.get((state / 64) as usize) else {
             return false;
         };
         (word >> (state % 64)) & 1 == 1
@@ -52,7 +52,7 @@ impl StateSet {
         ensures { (q : ℕ) → has self.new.words q ≡ (has self.old.words q || (nat_lt state most_states && q == state)) }
     {
         if state < MOST_STATES {
-            self.words[state as usize / 64] |= 1 << (state % 64);
+            self.words[(state / 64) as usize] |= 1 << (state % 64);
         }
     }
 

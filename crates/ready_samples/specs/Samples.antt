@@ -31,6 +31,7 @@ as_many width = max (min width most_states) 1
 
 -- Rules of range --------------------------------------------------------------------------------------------------
 
+-- it stands here, with its proof, since a ghost member reads its own crate's specs alone
 pub sample_lawful : (w : ℕ) (accept : List Bool) (enter up side : List (List ℕ)) → w ≤ most_states → Lawful (sample_machine w accept enter up side)
 sample_lawful w accept enter up side narrow =
     record {

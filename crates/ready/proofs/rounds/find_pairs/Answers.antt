@@ -9,9 +9,6 @@ use Rattle.ready.proofs.Existence.{search_found}
 use Rattle.ready.proofs.Relations.{answered_all, uncovered, rows_lead}
 use Rattle.ready.proofs.rounds.find_pairs.Goals as goal
 
-pub loop-preserved : goal.loop-preserved
-loop-preserved g c = ap (λ b. b.now) c.round.ensures.same ∙ c.loop.invariant
-
 pub loop-smaller : goal.loop-smaller
 loop-smaller g c =
     let post = c.round.ensures in

@@ -1,14 +1,11 @@
 use Rattle.std.proofs.Common.{refl, sym, ◌∙◌, inl, inr}
-use Rattle.std.proofs.lemmas.Bool.{false≢true, both_ways, or_cases, or_left, or_right}
+use Rattle.std.proofs.lemmas.Bool.{false≢true, or_cases, or_left, or_right}
 use Rattle.ready.specs.Pairs.{lies}
 use Rattle.ready.specs.Sets.{has}
 use Rattle.ready.proofs.BitLaws.{beyond}
 use Rattle.ready.proofs.Counts.{lack_lt}
 use Rattle.ready.proofs.Usefulness.{useful_spreads, useful_found}
 use Rattle.ready.proofs.useless.find_useful.Goals as goal
-
-pub loop-before-init : goal.loop-before-init
-loop-before-init g c q a = absurd (both_ways _ (c.empty-useful.ensures.none q) a)
 
 pub returns-then-is_subset : goal.returns-then-is_subset
 returns-then-is_subset g c lead q =

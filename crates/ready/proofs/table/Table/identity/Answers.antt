@@ -1,12 +1,8 @@
-use Rattle.std.proofs.Common.{◌≡◌, ℕ, Bool, false, ◌&&◌, ◌||◌, eqb, ltb, sym, ap, ◌∙◌, arith, length-set}
-use Rattle.std.proofs.lemmas.Bool.{le-ltb, lt-ltb}
+use Rattle.std.proofs.Common.{Bool, false, ◌&&◌, ◌||◌, eqb, ltb, sym, ap, ◌∙◌, arith, length-set}
+use Rattle.std.proofs.lemmas.Bool.{lt-ltb}
 use Rattle.book.specs.Limits.{most_states}
 use Rattle.ready.proofs.RowLaws.{lies_is, next_row, untouched}
 use Rattle.ready.proofs.table.Table.identity.Goals as goal
-
-pub loop-q-init : goal.loop-q-init
-loop-q-init c =
-    (omega arith, λ q p. c.empty-table.ensures q p ∙ ap (λ (b : Bool). b && eqb p q) (sym (le-ltb q 0 (omega arith))))
 
 pub loop-q-preserved : goal.loop-q-preserved
 loop-q-preserved c = (
@@ -16,8 +12,3 @@ loop-q-preserved c = (
       ∙ ap (λ (b : Bool). b || (ltb c.loop-q.q most_states && eqb p c.loop-q.q)) (sym (lies_is c.loop-q.table.rows c.loop-q.q p) ∙ untouched c.loop-q.table.rows c.loop-q.q (λ q p. false) (λ q p. eqb p q) c.loop-q.invariant.1 p)
       ∙ ap (λ (b : Bool). b && eqb p c.loop-q.q) (lt-ltb c.loop-q.q most_states (omega arith))),
 )
-
-pub returns : goal.returns
-returns c =
-    let e : c.loop-q.q ≡ c.args.width = omega arith in
-    λ q p. c.loop-q.invariant.1 q p ∙ ap (λ (n : ℕ). ltb q n && eqb p q) e

@@ -1,17 +1,10 @@
-use Rattle.std.proofs.Common.{◌≡◌, ℕ, ◌+◌, Bool, true, false, ◌&&◌, ◌||◌, ltb, List, take, sym, ap, ap₂, ◌∙◌, subst, rules, arith}
-use Rattle.std.proofs.lemmas.Bool.{le-ltb}
+use Rattle.std.proofs.Common.{◌≡◌, ℕ, ◌+◌, Bool, true, false, ◌&&◌, ◌||◌, ltb, List, take, sym, ap, ap₂, ◌∙◌, subst, rules}
 use Rattle.std.proofs.lemmas.List.{set-get_or}
 use Rattle.ready.specs.declared.state_set.StateSet.{StateSet}
 use Rattle.ready.specs.Pairs.{lies, nothing}
-use Rattle.ready.proofs.BitLaws.{or_none}
 use Rattle.ready.proofs.RowLaws.{lies_is, next_row, same_row, untouched, joined_rows}
 use Rattle.ready.proofs.table.Table.join.Goals as goal
 use Rattle.ready.proofs.table.Table.join.Goals.{then-contains, else-contains}
-
-pub loop-row-init : goal.loop-row-init
-loop-row-init c q p =
-    let old = lies (take c.args.width c.args.self.now.rows) in
-    sym (or_none (old q p)) ∙ ap (λ (b : Bool). old q p || (b && (old q c.args.from && lies c.args.self.now.rows c.args.to p))) (sym (le-ltb q 0 (omega arith)))
 
 pub loop-row-preserved : goal.loop-row-preserved
 loop-row-preserved c =
