@@ -1,6 +1,6 @@
 -- Classes of bytes, and places behind a list of bytes.
 use Rattle.std.proofs.Common.{◌≡◌, ℕ, suc, ◌+◌, Bool, true, false, ◌||◌, eqb, ◌⊎◌, List, [], ◌∷◌, ◌++◌, length, sym, refl, ◌∙◌, subst, inl, inr, arith}
-use Rattle.std.proofs.lemmas.Bool.{eqb-true, or_cases, and_parts, and_from, or_left, cases_Bool, both_ways}
+use Rattle.std.proofs.lemmas.Bool.{eqb-true, or_cases, and_parts, and_from, cases_Bool, both_ways}
 use Rattle.name_bytes.specs.Names.{name_start, name_byte, all}
 use Rattle.markup.specs.Grammar.{white}
 
@@ -35,9 +35,6 @@ start_no_white b h = go (cases_Bool (white b))
     go : (white b ≡ true) ⊎ (white b ≡ false) → white b ≡ false
     go (inl e) = absurd (both_ways (name_start b) (white_no_start b e) h)
     go (inr e) = e
-
-pub start_name_byte : (b : ℕ) → name_start b ≡ true → name_byte b ≡ true
-start_name_byte b h = or_left _ _ (or_left _ _ (or_left _ _ h))
 
 pub all_append : (c : ℕ → Bool) (xs ys : List ℕ) → all c xs ≡ true → all c ys ≡ true → all c (xs ++ ys) ≡ true
 all_append c [] ys h k = k

@@ -50,23 +50,26 @@ pub refused : {Q : Type 0} (f : ReaderFault) (b : Cursor) (m : Mode) (e : Reader
 refused f b m e o n (inl c) = cut_fails b m e o c
 refused f b m e o n (inr (h, p, q)) = byte_fails b m f h (n h p) ∙ ap (λ (z : ReaderFault). record { given = []; ended = fault_ending z }) (sym q)
 
+found_at : (P : ℕ → Bool → Type 0) (s : List ℕ) (p k : ℕ) → p ≤ k → P (get_or (drop p s) (k - p) 0) true → P (get_or s k 0) true
+found_at P s p k l x =
+    subst (λ (z : ℕ). P z true) (get_or-drop p s (k - p) 0 ∙ ap (λ (z : ℕ). get_or s z 0) (let q : p + (k - p) ≡ k = omega arith in q)) x
+
 -- past all bytes that fit: to the first that does not, or to the text's end
 pub skipped_first : (P : ℕ → Bool → Type 0) (s : List ℕ) (p : ℕ) (r : Option ℕ) (n : ℕ) → p ≤ length s → n ≡ unwrap_or r (length (drop p s)) →
     MatchOption r (AllWithin (λ x. P x true) (drop p s) 0 (length (drop p s))) (λ i. (i < length (drop p s)) × HoldsAt (λ x. P x false) (drop p s) i × AllWithin (λ x. P x true) (drop p s) 0 i) →
     (s ≡ s) × (p ≤ p + n) × ((k : ℕ) → p ≤ k → k < p + n → P (get_or s k 0) true) × (p + n < length s → P (get_or s (p + n) 0) false)
-skipped_first P s p None n i e h = (refl, omega arith, λ k l m. at_place k l (h (k - p) 0 (omega arith) (omega (arith, length-drop p s))), λ l. absurd (omega (arith, length-drop p s)))
-  where
-    at_place : (k : ℕ) → p ≤ k → P (get_or (drop p s) (k - p) 0) true → P (get_or s k 0) true
-    at_place k l x = subst (λ (z : ℕ). P z true) (get_or-drop p s (k - p) 0 ∙ ap (λ (z : ℕ). get_or s z 0) (let q : p + (k - p) ≡ k = omega arith in q)) x
+skipped_first P s p None n i e h = (
+  refl,
+  omega arith,
+  λ k l m. found_at P s p k l (h (k - p) 0 (omega arith) (omega (arith, length-drop p s))),
+  λ l. absurd (omega (arith, length-drop p s)),
+)
 skipped_first P s p (Some j) n i e (l, y, h) = (
   refl,
   omega arith,
-  λ k l m. at_place k l (h (k - p) 0 (omega arith) (omega arith)),
+  λ k l m. found_at P s p k l (h (k - p) 0 (omega arith) (omega arith)),
   λ _. subst (λ (z : ℕ). P z false) (get_or-drop p s j 0 ∙ ap (λ (z : ℕ). get_or s (p + z) 0) (sym e)) (y 0),
 )
-  where
-    at_place : (k : ℕ) → p ≤ k → P (get_or (drop p s) (k - p) 0) true → P (get_or s k 0) true
-    at_place k l x = subst (λ (z : ℕ). P z true) (get_or-drop p s (k - p) 0 ∙ ap (λ (z : ℕ). get_or s z 0) (let q : p + (k - p) ≡ k = omega arith in q)) x
 
 -- a test's answers are those of a class
 abbrev pub Is : (ℕ → Bool) → ℕ → Bool → Type 0

@@ -1,10 +1,8 @@
 -- Tokens that show the tags of a reading, one more at a time.
-use Rattle.std.proofs.Common.{◌≡◌, ℕ, ◌+◌, Bool, true, false, List, [], ◌∷◌, ◌++◌, length, Ok, refl, ap, ◌∙◌, subst, append-nil}
-use Rattle.markup.proofs.OneReading.{reads}
+use Rattle.std.proofs.Common.{◌≡◌, ℕ, ◌+◌, Bool, true, false, List, [], ◌∷◌, ◌++◌, length, Ok, refl, ap, ◌∙◌}
 use Rattle.markup.proofs.RightTexts.{giving_giving}
 use Rattle.markup.specs.Grammar.{Tag, closes, opens}
-use Rattle.markup.specs.Law.{Reads}
-use Rattle.markup.specs.Reading.{Ending, Reading, giving, reading}
+use Rattle.markup.specs.Reading.{Reading, giving}
 use Rattle.markup.specs.Tokens.{Gives, remaining}
 use Rattle.markup.specs.Whole.{AllShown, Shows}
 use Rattle.markup.specs.declared.reader.Reader.{Reader}
@@ -32,8 +30,3 @@ gives_tag b a Finish g f = cc
 -- the first tag of what is left joins those that were given
 pub giving_more : (whole : Reading) (ts : List Tag) (t : Tag) (r r' : Reading) → whole ≡ giving ts r → r ≡ giving (t ∷ []) r' → whole ≡ giving (ts ++ (t ∷ [])) r'
 giving_more whole ts t r r' e f = e ∙ ap (λ (z : Reading). giving ts z) f ∙ giving_giving ts (t ∷ []) r'
-
--- where no tag is left, those given are all
-pub reads_given : (s : List ℕ) (ts : List Tag) (r : Reading) (e : Ending) → reading s ≡ giving ts r → r ≡ record { given = []; ended = e } → Reads s (record { given = ts; ended = e })
-reads_given s ts r e f g =
-    subst (λ (z : Reading). Reads s z) (f ∙ ap (λ (z : Reading). giving ts z) g ∙ ap (λ (z : List Tag). record { given = z; ended = e }) (append-nil ts)) (reads s)

@@ -47,15 +47,6 @@ awaited_on s i at w rest j h k e =
     ap (λ (m : Mode). from s i m) (awaited_at at w rest j k)
     ∙ at_on s i (awaiting at w (get_or rest j 0) (drop (j + 1) rest)) (awaiting_all at w (drop (j + 1) rest)) h (awaiting_next i at w (get_or rest j 0) (drop (j + 1) rest) (get_or s i 0) ∙ cond-true (eqb (get_or s i 0) (get_or rest j 0)) _ _ (eq-eqb _ _ e))
 
-pub awaited_stop : (s : List ℕ) (i at : ℕ) (w : Where) (rest : List ℕ) (j : ℕ) → i < length s → j < length rest → (get_or s i 0 ≡ get_or rest j 0 → ⊥) →
-    from s i (awaiting_all at w (drop j rest)) ≡ record { given = []; ended = failed 25 at }
-awaited_stop s i at w rest j h k e =
-    ap (λ (m : Mode). from s i m) (awaited_at at w rest j k)
-    ∙ at_stop s i 25 at (awaiting at w (get_or rest j 0) (drop (j + 1) rest)) h (awaiting_next i at w (get_or rest j 0) (drop (j + 1) rest) (get_or s i 0) ∙ cond-false (eqb (get_or s i 0) (get_or rest j 0)) _ _ (ne_eqb _ _ e))
-
-pub awaited_cut : (s : List ℕ) (i at : ℕ) (w : Where) (rest : List ℕ) (j : ℕ) → length s ≤ i → j < length rest → from s i (awaiting_all at w (drop j rest)) ≡ record { given = []; ended = failed 21 i }
-awaited_cut s i at w rest j h k = ap (λ (m : Mode). from s i m) (awaited_at at w rest j k) ∙ at_end s i (awaiting at w (get_or rest j 0) (drop (j + 1) rest)) h
-
 pub awaited_done : (s : List ℕ) (i at : ℕ) (w : Where) (rest : List ℕ) (j : ℕ) → length rest ≤ j → from s i (awaiting_all at w (drop j rest)) ≡ from s i (in_content w)
 awaited_done s i at w rest j h = ap (λ (z : List ℕ). from s i (awaiting_all at w z)) (drop_all j rest h)
 
@@ -70,9 +61,6 @@ white_equals at k p b h = cond-true (white b) _ _ h
 
 pub white_named : (at k : ℕ) → Stays white (attribute_named at k)
 white_named at k p b h = cond-true (white b) _ _ h
-
-pub white_spaced : (at k : ℕ) → Stays white (spaced at k)
-white_spaced at k p b h = cond-true (white b) _ _ h
 
 pub white_ended : (at k : ℕ) → Stays white (end_spaced at k)
 white_ended at k p b h = cond-true (white b) _ _ h

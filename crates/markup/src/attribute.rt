@@ -6,7 +6,7 @@ use crate::fault::ReaderFault;
 impl<'a> Cursor<'a> {
     ghost use Rattle.markup.specs.Parts.{Attributed, Shuts, Valued};
 
-    // Behind a start tag's name: past its attributes and white space, to the byte that ends the tag or is refused.
+    // Behind a start tag's name: past its attributes and white space, to the byte that ends the tag or is refused, which is given.
     pub(crate) fn attributes(&mut self) -> Result<u8, ReaderFault>
         ensures { Shuts self.old result self.new }
     {
