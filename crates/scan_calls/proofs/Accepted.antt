@@ -1,5 +1,5 @@
 -- An accepted call, on the scan over lists that a scan stands for, before it and after it. Assumes nothing.
-use Rattle.std.proofs.Common.{◌≡◌, ℕ, suc, ◌+◌, ◌-◌, Bool, List, [], ◌++◌, map, length, drop, Ok, Result, filter, sym, ap, ◌∙◌, subst}
+use Rattle.std.proofs.Common.{◌≡◌, ℕ, suc, ◌+◌, ◌-◌, Bool, List, [], ◌++◌, map, length, drop, Ok, Err, Result, filter, sym, refl, ap, ◌∙◌, subst}
 use Rattle.book.specs.declared.event.Event.{Event}
 use Rattle.book.specs.declared.answer.Order.{Order}
 use Rattle.book.specs.declared.answer.Totals.{Totals}
@@ -14,9 +14,9 @@ use Rattle.scan.specs.Model.{Holding, Model, begun, pending, is_due, is_held, du
 use Rattle.scan.specs.Standing.{Stands}
 use Rattle.scan.proofs.Standing.{begins_right, step_kept}
 use Rattle.scan_calls.specs.declared.scanning.Scan.{Scan}
-use Rattle.scan_calls.specs.Rows.{Settled}
-use Rattle.scan_calls.specs.Scans.{model_of, meaning_of, table_of, Stepped, Called}
-use Rattle.scan_calls.proofs.Lines.{ok_is}
+use Rattle.scan_calls.specs.Rows.{base_of, held_of, Settled}
+use Rattle.scan_calls.specs.Scans.{model_of, meaning_of, table_of, totals_of, Stepped, Called}
+use Rattle.scan_calls.proofs.Lines.{ok_is, err_is, apart}
 
 -- the items judged are those that the event leaves pending, and what is counted is counted on
 module _ (reach : ℕ → ℕ → Bool) (m : Selecting) (e : Event) (old new : Model) (event sent left : ℕ) (items : List Holding) (before later : List Order)
@@ -26,7 +26,7 @@ module _ (reach : ℕ → ℕ → Bool) (m : Selecting) (e : Event) (old new : M
   sent_is : sent ≡ length (due_at reach m old e)
   sent_is = settled.due ∙ ap (λ (hs : List Holding). length (filter (is_due m.shape e) hs)) judged
 
-  pub model_is : new ≡ next reach m old e
+  model_is : new ≡ next reach m old e
   model_is =
       let held : new.held ≡ held_at reach m old e = settled.held ∙ ap (filter (is_held m.shape e)) judged in
       let sum : new.ordered ≡ old.ordered + length (due_at reach m old e) = ordered ∙ ap (λ (k : ℕ). old.ordered + k) sent_is in
@@ -39,13 +39,48 @@ module _ (reach : ℕ → ℕ → Bool) (m : Selecting) (e : Event) (old new : M
         ∙ (λ i. record { orders = sent; opened = new.opened; ordered = new.ordered; dropped = new.opened - (new.ordered + sym settled.cells i); held = sym settled.cells i })
         ∙ (λ i. totals (sent_is i) (model_is i))
 
-    pub answer_is : Ok (tt {0}) ≡ checked (test reach m old (length before) e) scan_lines (tt {0}) → Ok a ≡ answer reach m old (length before) e
+    answer_is : Ok (tt {0}) ≡ checked (test reach m old (length before) e) scan_lines (tt {0}) → Ok a ≡ answer reach m old (length before) e
     answer_is ok = ok_is (test reach m old (length before) e) scan_lines (tt {0}) a (totals (length (due_at reach m old e)) (next reach m old e)) ok totals_is
 
-    pub list_is : later ≡ list_after reach m old e before (Ok a)
+    list_is : later ≡ list_after reach m old e before (Ok a)
     list_is = settled.list
         ∙ (λ i. map (note (number i)) (filter (is_due m.shape e) (judged i)) ++ drop sent before)
         ∙ ap (λ (k : ℕ). map (note (suc old.events)) (due_at reach m old e) ++ drop k before) (sym (ap (λ (x : Totals). x.orders) is))
+
+-- A call of a scan ----------------------------------------------------------------------------------------------
+
+module _ {B : Type 0} {selects : _} {book : _} (e : Event) (s : Scan B selects book) (before : List Order) where
+  abbrev reach : ℕ → ℕ → Bool
+  reach = table_of s
+
+  abbrev m : Selecting
+  m = meaning_of s
+
+  abbrev lines : Refusal → Bool
+  lines = test reach m (model_of s) (length before) e
+
+  -- a refused one changes nothing
+  pub refused : (r : Refusal) → Err r ≡ checked lines scan_lines (tt {0}) → Stepped e s s before before (Err r)
+  refused r is = record {
+    same = refl;
+    answer = err_is lines scan_lines (tt {0}) (totals (length (due_at reach m (model_of s) e)) (next reach m (model_of s) e)) r is;
+    list = refl;
+    model = refl;
+    unchanged = λ l q. refl;
+  }
+
+  -- an accepted one, after which the scan is s'
+  pub accepted : (s' : Scan B selects book) (later : List Order) (sent : ℕ) (items : List Holding) → s'.ready ≡ s.ready → s'.events ≡ suc s.events → items ≡ pending reach m (model_of s) e
+      → Settled m.shape e s'.events items before later sent (held_of s'.rows) s'.rows.count → (model_of s').place ≡ after (model_of s).place e → s'.opened ≡ count s.opened e
+      → s'.ordered ≡ s.ordered + sent → base_of s'.rows ≡ moved reach m.shape e (base_of s.rows) → (a : Totals) → a ≡ totals_of sent s' → Ok (tt {0}) ≡ checked lines scan_lines (tt {0})
+      → Stepped e s s' before later (Ok a)
+  accepted s' later sent items same number judged settled place opens ordered base a is ok = record {
+    same = same;
+    answer = answer_is reach m e (model_of s) (model_of s') s'.events sent s'.rows.count items before later number judged settled place refl opens ordered base a is ok;
+    list = list_is reach m e (model_of s) (model_of s') s'.events sent s'.rows.count items before later number judged settled place refl opens ordered base a is;
+    model = model_is reach m e (model_of s) (model_of s') s'.events sent s'.rows.count items before later number judged settled place refl opens ordered base;
+    unchanged = λ l q. apart a l q;
+  }
 
 -- What the scan over lists does keeps the promise ----------------------------------------------------------------
 

@@ -5,33 +5,20 @@ use Rattle.book.specs.declared.answer.Order.{Order}
 use Rattle.book.specs.declared.answer.Refusal.{Refusal}
 use Rattle.book.specs.Checks.{scan_lines}
 use Rattle.book.specs.Machines.{Selecting}
-use Rattle.scan.specs.Model.{Holding, Model, test, onward, pending, totals, due_at, next}
+use Rattle.scan.specs.Model.{Holding, Model, test, onward, pending}
 use Rattle.scan_calls.specs.Scans.{stack, place_of, model_of, meaning_of, table_of}
 use Rattle.scan_calls.specs.declared.scanning.Rows.{Rows}
-use Rattle.scan_calls.specs.Rows.{base_of, held_of}
+use Rattle.scan_calls.specs.Rows.{held_of}
 use Rattle.book.specs.Catalogue.{within, broken, after}
 use Rattle.std.proofs.lemmas.Bool.{eq-eqb}
-use Rattle.scan_calls.proofs.Lines.{clear, going, some_open, top_is, stack_more, err_is, apart}
-use Rattle.scan_calls.proofs.Accepted.{model_is, answer_is, list_is}
+use Rattle.scan_calls.proofs.Lines.{clear, going, some_open, top_is, stack_more}
+use Rattle.scan_calls.proofs.Accepted.{refused, accepted}
 use Rattle.scan_calls.proofs.scanning.Scan.make_close.Goals as goal
 
 pub returns-in_err-check_close : goal.returns-in_err-check_close
 returns-in_err-check_close g c =
-    let s = c.args.self.now in
-    let t : ℕ = c.args.tag in
-    let m : Selecting = meaning_of s in
-    let reach : ℕ → ℕ → Bool = table_of s in
-    let old : Model = model_of s in
-    let os : List Order = c.args.orders.now in
-    let p : Refusal → Bool = test reach m old (length os) (Close t) in
     let x = err_from_is_err_and c.from_residual.result c.from_residual.ensures.1 in
-    rw (x.1, x.2) (record {
-      same = refl;
-      answer = err_is p scan_lines (tt {0}) (totals (length (due_at reach m old (Close t))) (next reach m old (Close t))) _ c.in_err-check_close.ensures;
-      list = refl;
-      model = refl;
-      unchanged = λ l e. refl;
-    })
+    rw (x.1, x.2) (refused (Close c.args.tag) c.args.self.now c.args.orders.now _ c.in_err-check_close.ensures)
 
 pub returns : goal.returns
 returns g c =
@@ -56,17 +43,10 @@ returns g c =
     let d : ℕ = s.rows.depth - 1 in
     let items : List Holding = map (onward reach m.shape (Close t)) (held_of s.rows) in
     let judged : items ≡ pending reach m old (Close t) = sym (append-nil items) in
-    let new : Model = record { place = place_of s.ended (stack s.tags rows.depth); events = event; opened = s.opened; ordered = s.ordered + sent; base = base_of rows; held = held_of rows } in
-    let place : new.place ≡ after old.place (Close t) =
+    let place : place_of s.ended (stack s.tags rows.depth) ≡ after old.place (Close t) =
     ap (λ (k : ℕ). place_of s.ended (stack s.tags k)) k.depth
     ∙ ap (λ (x : Bool). place_of x (stack s.tags d)) on
     ∙ ap (λ (x : Bool). cond x (within (stack s.tags d)) broken) (sym (eq-eqb (get_or s.tags d 0) t top))
     ∙ ap (λ (us : List ℕ). after (within us) (Close t)) (sym (stack_more s.tags s.rows.depth some))
     ∙ ap (λ (x : Bool). after (place_of x (stack s.tags s.rows.depth)) (Close t)) (sym on) in
-    record {
-      same = refl;
-      answer = answer_is reach m (Close t) old new event sent rows.count items os later number judged k.settled place refl refl refl k.base c.totals.result c.totals.ensures ok;
-      list = list_is reach m (Close t) old new event sent rows.count items os later number judged k.settled place refl refl refl k.base c.totals.result c.totals.ensures;
-      model = model_is reach m (Close t) old new event sent rows.count items os later number judged k.settled place refl refl refl k.base;
-      unchanged = λ l e. apart c.totals.result l e;
-    }
+    accepted (Close t) s os _ later sent items refl number judged k.settled place refl refl k.base c.totals.result c.totals.ensures ok
