@@ -1,7 +1,7 @@
 // A ready book: the book with its table of the states that rows of whole items lead to.
 ghost use Rattle.std.specs.Prelude.{◌≡◌, ℕ, ◌<◌, true, ◌↔◌};
 ghost use Rattle.book.specs.Tables.{Fits};
-ghost use Rattle.ready.specs.Dead.{Dead, Useless};
+ghost use Rattle.ready.specs.Dead.{Dead};
 ghost use Rattle.ready.specs.Laws.{AlwaysAnswerable, DecidesAcceptance, DecidesItems, Watchable};
 ghost use Rattle.ready.specs.Pairs.{lies};
 ghost use Rattle.ready.specs.Rounds.{RowsLead};
@@ -10,14 +10,13 @@ ghost use Rattle.ready.specs.Sets.{has};
 use crate::rounds::find_pairs;
 use crate::state_set::StateSet;
 use crate::table::Table;
-use crate::useless::find_useless;
 use book::shape_book::ShapeBook;
 
 #[derive(Drop)]
 pub struct Ready<B: ShapeBook> {
-    book: B,
+    pub(crate) book: B,
     // for each state of the book, the states that some row of whole items leads to
-    reach: Table,
+    pub(crate) reach: Table,
     ghost leads: { ∥ RowsLead (B.ShapeBook.machine book) (lies reach.rows) ∥₁ },
 }
 
@@ -71,13 +70,6 @@ impl<B: ShapeBook> Ready<B> {
         ensures { (result ≡ true) ↔ Dead (B.ShapeBook.machine self.now.book) state }
     {
         state < self.book.width() && !may_accept(self.book(), &self.row(state))
-    }
-
-    // The states of the book from which no way on is accepted, inside whatever items the run stands.
-    pub fn useless_states(&self) -> StateSet
-        ensures { (q : ℕ) → (has result.words q ≡ true) ↔ Useless (B.ShapeBook.machine self.now.book) q }
-    {
-        find_useless(&self.book, &self.reach)
     }
 }
 

@@ -4,11 +4,10 @@ ghost use Rattle.std.specs.Prelude.{◌≡◌, ℕ, ◌<◌, true, ◌⊎◌, �
 ghost use Rattle.book.specs.Limits.{tags};
 ghost use Rattle.ready.specs.Dead.{Closes, Useful, Useless, Stops};
 ghost use Rattle.ready.specs.Pairs.{lies};
-ghost use Rattle.ready.specs.Rounds.{RowsLead};
 ghost use Rattle.ready.specs.Sets.{has};
 
+use crate::ready::Ready;
 use crate::state_set::StateSet;
-use crate::table::Table;
 use book::limits::TAGS;
 use book::shape_book::ShapeBook;
 
@@ -38,30 +37,34 @@ fn all_stops<B: ShapeBook>(book: &B, useful: &StateSet) -> StateSet
     StateSet::of(book.width(), |state| stops(book, state, useful))
 }
 
-// The states from which a row of whole items leads to where it may end.
-fn useful_before<B: ShapeBook>(book: &B, reach: &Table, useful: &StateSet) -> StateSet
-    ensures { (q : ℕ) → (has result.words q ≡ true) ↔ ((q < (B.ShapeBook.machine book.now).width) × ((p : ℕ) × (lies reach.now.rows q p ≡ true) × (p < (B.ShapeBook.machine book.now).width) × Stops (B.ShapeBook.machine book.now) (has useful.now.words) p)) }
-{
-    let ends = all_stops(book, useful);
-    StateSet::of(book.width(), |state| reach.leads_into(state, &ends))
-}
-
-fn find_useful<B: ShapeBook>(book: &B, reach: &Table) -> StateSet
-    ensures { RowsLead (B.ShapeBook.machine book.now) (lies reach.now.rows) → (q : ℕ) → (has result.words q ≡ true) ↔ ((q < (B.ShapeBook.machine book.now).width) × Useful (B.ShapeBook.machine book.now) q) }
-{
-    let mut useful = StateSet::empty();
-    loop {
-        let before = useful_before(book, reach, &useful);
-        if before.is_subset(&useful) {
-            return useful;
-        }
-        useful = useful.union(&before);
+impl<B: ShapeBook> Ready<B> {
+    // The states of the book from which no way on is accepted, inside whatever items the run stands.
+    pub fn useless_states(&self) -> StateSet
+        ensures { (q : ℕ) → (has result.words q ≡ true) ↔ Useless (B.ShapeBook.machine self.now.book) q }
+    {
+        let useful = self.useful_states();
+        StateSet::of(self.book.width(), |state| !useful.contains(state))
     }
-}
 
-pub(crate) fn find_useless<B: ShapeBook>(book: &B, reach: &Table) -> StateSet
-    ensures { RowsLead (B.ShapeBook.machine book.now) (lies reach.now.rows) → (q : ℕ) → (has result.words q ≡ true) ↔ Useless (B.ShapeBook.machine book.now) q }
-{
-    let useful = find_useful(book, reach);
-    StateSet::of(book.width(), |state| !useful.contains(state))
+    fn useful_states(&self) -> StateSet
+        ensures { (q : ℕ) → (has result.words q ≡ true) ↔ ((q < (B.ShapeBook.machine self.now.book).width) × Useful (B.ShapeBook.machine self.now.book) q) }
+    {
+        let mut useful = StateSet::empty();
+        loop {
+            let before = self.useful_before(&useful);
+            if before.is_subset(&useful) {
+                return useful;
+            }
+            useful = useful.union(&before);
+        }
+    }
+
+    // The states from which a row of whole items leads to where it may end.
+    fn useful_before(&self, useful: &StateSet) -> StateSet
+        ensures { (q : ℕ) → (has result.words q ≡ true) ↔ ((q < (B.ShapeBook.machine self.now.book).width) × ((p : ℕ) × (lies self.now.reach.rows q p ≡ true) × (p < (B.ShapeBook.machine self.now.book).width) × Stops (B.ShapeBook.machine self.now.book) (has useful.now.words) p)) }
+    {
+        let ends = all_stops(&self.book, useful);
+        let reach = &self.reach;
+        StateSet::of(self.book.width(), |state| reach.leads_into(state, &ends))
+    }
 }

@@ -3,17 +3,17 @@ use Rattle.ready.specs.Pairs.{lies}
 use Rattle.ready.specs.Sets.{has}
 use Rattle.ready.specs.Dead.{Stops}
 use Rattle.ready.proofs.Members.{members_below}
-use Rattle.ready.proofs.useless.useful_before.Goals as goal
+use Rattle.ready.proofs.ready.Ready.useful_before.Goals as goal
 
 pub returns : goal.returns
 returns g c =
-    let m = g.B.ShapeBook.machine c.args.book.now in
-    let law = g.met.B.ShapeBook.lawful c.args.book.now in
-    members_below c.of.result.words m.width (λ q. (p : ℕ) × (lies c.args.reach.now.rows q p ≡ true) × (p < m.width) × Stops m (has c.args.useful.now.words) p)
+    let m = g.B.ShapeBook.machine c.args.self.now.book in
+    let law = g.met.B.ShapeBook.lawful c.args.self.now.book in
+    members_below c.of.result.words m.width (λ q. (p : ℕ) × (lies c.args.self.now.reach.rows q p ≡ true) × (p < m.width) × Stops m (has c.args.useful.now.words) p)
     (λ q a. omega (arith, c.of.ensures.within q a, c.width.ensures))
     (λ q lt.
     let answer = c.of.ensures.tested q (omega (arith, c.width.ensures)) (omega (arith, law.narrow)) in
-    let met : (has c.of.result.words q ≡ true) ↔ ((p : ℕ) × (lies c.args.reach.now.rows q p ≡ true) × (has c.all_stops-ends.result.words p ≡ true)) = search rules in (
+    let met : (has c.of.result.words q ≡ true) ↔ ((p : ℕ) × (lies c.args.self.now.reach.rows q p ≡ true) × (has c.all_stops-ends.result.words p ≡ true)) = search rules in (
       (λ a. let p = met.0 a in let b = (c.all_stops-ends.ensures p.0).0 p.2 in (p.0, p.1, b.0, b.1)),
       λ p. met.1 (p.0, p.1, (c.all_stops-ends.ensures p.0).1 (p.2, p.3)),
     ))
