@@ -34,9 +34,9 @@ module _ {A : Type 0} where
   unless_ok None fault a b h = (refl, ok_same (Ok a) b a h refl)
   unless_ok (Some at) fault a b h = cc
 
-pub then_ok : {A B : Type 0} (r : Result A BookFault) (f : A → Result B BookFault) (b : B) → and_then r f ≡ Ok b → (a : A) × (r ≡ Ok a) × (f a ≡ Ok b)
-then_ok (Ok a) f b h = (a, refl, h)
-then_ok (Err e) f b h = cc
+pub and_then_ok : {A B : Type 0} (r : Result A BookFault) (f : A → Result B BookFault) (b : B) → and_then r f ≡ Ok b → (a : A) × (r ≡ Ok a) × (f a ≡ Ok b)
+and_then_ok (Ok a) f b h = (a, refl, h)
+and_then_ok (Err e) f b h = cc
 
 -- The header ------------------------------------------------------------------------------------------------------
 
@@ -131,11 +131,11 @@ tables_written h at bs ts l e =
     let k₂ : M ≤ length b₂ = omega arith in
     let k₃ : E ≤ length b₃ = omega arith in
     let k₄ : T ≤ length b₄ = omega arith in
-    let v₁ = then_ok (table_at 2 at (take S bs)) _ ts e in
-    let v₂ = then_ok (table_at S (at + S) (take E b₁)) _ ts v₁.2 in
-    let v₃ = then_ok (table_at S (at + S + E) (take M b₂)) _ ts v₂.2 in
-    let v₄ = then_ok (table_at h.trees (at + S + E + M) (take E b₃)) _ ts v₃.2 in
-    let v₅ = then_ok (table_at S (at + S + E + M + E) (take T b₄)) _ ts v₄.2 in
+    let v₁ = and_then_ok (table_at 2 at (take S bs)) _ ts e in
+    let v₂ = and_then_ok (table_at S (at + S) (take E b₁)) _ ts v₁.2 in
+    let v₃ = and_then_ok (table_at S (at + S + E) (take M b₂)) _ ts v₂.2 in
+    let v₄ = and_then_ok (table_at h.trees (at + S + E + M) (take E b₃)) _ ts v₃.2 in
+    let v₅ = and_then_ok (table_at S (at + S + E + M + E) (take T b₄)) _ ts v₄.2 in
     let w₁ = table_written 2 S at bs v₁.0 k₀ v₁.1 in
     let w₂ = table_written S E (at + S) b₁ v₂.0 k₁ v₂.1 in
     let w₃ = table_written S M (at + S + E) b₂ v₃.0 k₂ v₃.1 in
@@ -186,9 +186,9 @@ pub names_written : (size count at : ℕ) (bs : List ℕ) (ws : List (List ℕ))
 names_written size zero at [] ws h = subst (λ vs. NamesWritten 0 [] vs) (ok_same (Ok []) [] ws refl h) (refl, refl, refl)
 names_written size zero at (b ∷ bs) ws h = cc
 names_written size (suc count) at bs ws h =
-    let one = then_ok (name_at size at bs) _ ws h in
+    let one = and_then_ok (name_at size at bs) _ ws h in
     let w : List ℕ = one.0 in
-    let more = then_ok (names_at size count (at + suc (length w)) (drop (suc (length w)) bs)) _ ws one.2 in
+    let more = and_then_ok (names_at size count (at + suc (length w)) (drop (suc (length w)) bs)) _ ws one.2 in
     let vs : List (List ℕ) = more.0 in
     let p = name_written size at bs w one.1 in
     let q = names_written size count (at + suc (length w)) (drop (suc (length w)) bs) vs more.1 in
@@ -203,12 +203,12 @@ FileWritten bs f = Right f × (bs ≡ bytes_of f)
 
 pub file_written : (bs : List ℕ) (f : File) → reading bs ≡ Ok f → FileWritten bs f
 file_written bs f e =
-    let v₁ = then_ok (header bs) _ f e in
+    let v₁ = and_then_ok (header bs) _ f e in
     let h : Header = v₁.0 in
     let v₂ = passed_false (nat_lt (length bs) (10 + tables_size h)) _ (CutOff (length bs)) f v₁.2 in
-    let v₃ = then_ok (tables_at h 10 (drop 10 bs)) _ f v₂.1 in
+    let v₃ = and_then_ok (tables_at h 10 (drop 10 bs)) _ f v₂.1 in
     let ts : Rows = v₃.0 in
-    let v₄ = then_ok (names_at (length bs) (h.columns - 1) (10 + tables_size h) (drop (10 + tables_size h) bs)) _ f v₃.2 in
+    let v₄ = and_then_ok (names_at (length bs) (h.columns - 1) (10 + tables_size h) (drop (10 + tables_size h) bs)) _ f v₃.2 in
     let ws : List (List ℕ) = v₄.0 in
     let whole : 10 + tables_size h ≤ length bs = ltb-false (length bs) (10 + tables_size h) v₂.0 in
     let left : length (drop 10 bs) ≡ length bs - 10 = length-drop 10 bs in

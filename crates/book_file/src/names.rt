@@ -2,7 +2,8 @@
 ghost use Rattle.std.specs.Prelude.{◌≡◌, ◌<◌};
 ghost use Rattle.book.specs.Limits.{tags};
 
-// The part of a file that holds its names, each behind its length; the first is that of tag 1.
+// The part of a file that holds its names, as the file has them: each behind its length, the first that of tag 1. Nothing is
+// copied, and no memory is asked for.
 #[derive(Clone, Copy)]
 pub struct Names<'a> {
     pub(crate) packed: &'a [u8],
@@ -36,11 +37,12 @@ impl<'a> Iterator for Words<'a> {
 impl<'a> Names<'a> {
     ghost use Rattle.book_file.specs.Names.{LowestTag, listed, name_of, spelt, tag_of};
 
-    // The lowest tag that has this name, or 0 where no tag has it.
+    // The lowest tag that has this name, or 0 where no tag has it: tag 0 is that of every other name, so it is an answer too.
     pub fn tag_of(&self, name: &[u8]) -> u8
         ensures value { result ≡ tag_of (listed self.now) name.now }
         ensures lowest { LowestTag (listed self.now) name.now result }
     {
+        // Fewer than 32 names stand before it, so the cast loses nothing; `try_from` would bring an error that can't come.
         Words(*self)
             .position(|word| word == name)
             .map_or(0, |before| before as u8 + 1)

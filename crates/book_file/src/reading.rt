@@ -97,11 +97,11 @@ fn file_with<'a>(header: Header, tables: Tables<'a>, names: Names<'a>) -> BookFi
 
 // The book file in these bytes, or its first fault: that of the header, then of the tables, which are looked at only
 // where all are whole, then of the names. What it says of the bytes: from which file they were written, or that they
-// were written from none; and of a file, that its book answers from its own tables.
+// were written from none; and of a file, that its book answers from the tables that were written.
 pub fn read_book<'a>(bytes: &'a [u8]) -> Result<BookFile<'a>, BookFault>
     ensures value { read_file result ≡ reading bytes.now }
     ensures written { WrittenOnce bytes.now (read_file result) }
-    ensures answers { IfOk result Answering }
+    ensures answers { IfOk result (Answering bytes.now) }
 {
     let header = read_header(bytes)?;
     if bytes.len() < HEADER + header.tables() {

@@ -14,7 +14,7 @@ pub(crate) struct Rest<'a> {
     ghost ends: { at + length bytes.now < 2 ^ 64 },
 }
 
-// The tables of a file; a shape file's for `mark` is empty.
+// The tables of a file; a shape file's for `mark` is empty. An `Option` would say a second time what the header's kind says.
 #[derive(Clone, Copy)]
 pub(crate) struct Tables<'a> {
     pub(crate) accept: &'a [u8],
@@ -105,6 +105,7 @@ impl<'a> Rest<'a> {
         };
         let at = self.at;
         let length = usize::from(*first);
+        // Two comparisons: with `contains` the check does not find that the name's bytes, and the place behind them, fit.
         if length < 1 || length > NAME_LIMIT {
             return Err(BookFault::NameByte { at });
         }

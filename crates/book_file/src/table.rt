@@ -75,7 +75,7 @@ impl<'a> TableBook<'a> {
         self.at_tag(self.up, inner, tag)
     }
 
-    // Where a state goes beside a tree state.
+    // Where a state goes beside a tree state. The place is computed, as in `at_tag`.
     fn beside(&self, outer: u16, tree: u16) -> u16
         requires outer_lt_states { outer < self.now.states }
         requires tree_lt_trees { tree < self.now.trees }

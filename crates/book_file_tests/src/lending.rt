@@ -6,7 +6,8 @@ use book::shape_book::ShapeBook;
 use book_file::file::BookFile;
 use book_file::reading::read_book;
 
-// The width of the shape book in these bytes, 0 where there is none; then the first byte is cleared.
+// The width of the shape book in these bytes, 0 where there is none, as of a book without states; then the first byte is
+// cleared.
 pub fn width_and_clear(bytes: &mut [u8]) -> u16
     ensures width { result ≡ shape_width bytes.old }
     ensures after { bytes.new ≡ cleared bytes.old }

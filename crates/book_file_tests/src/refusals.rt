@@ -2,7 +2,7 @@
 use crate::samples::{SEAL, seal_with};
 use book_file::reading::read_book;
 
-// Are these bytes refused with this number at this place?
+// Are these bytes refused with this number at this place? Both are what is printed of a refused file.
 fn is_refused(bytes: &[u8], number: u32, place: usize) -> bool {
     read_book(bytes).is_err_and(|fault| fault.number() == number && fault.place() == Some(place))
 }

@@ -17,7 +17,7 @@ returns-in_err-tables c =
     let value : read_file c.from_residual-in_err-tables.result ≡ reading bs =
     rw (p.1, p.2)
     (tables_fault bs h c.in_ok-header.ensures.value whole c.in_err-tables.field-0.0 (c.in_err-tables.ensures.value ∙ ap (tables_at h 10) c.split_at.ensures.back)) in
-    record { value = value; written = written bs _ value; answers = own_tables c.from_residual-in_err-tables.result }
+    record { value = value; written = written bs _ value; answers = own_tables bs _ (written bs _ value) }
 
 pub returns-in_err-names : goal.returns-in_err-names
 returns-in_err-names c =
@@ -32,7 +32,7 @@ returns-in_err-names c =
     (names_fault bs h c.in_ok-header.ensures.value whole (rows_of c.in_ok-tables.tables)
     (tables.value ∙ ap (tables_at h 10) behind) c.tables-2.new.self.at c.tables-2.new.self.bytes.now tables.rest.1 (tables.rest.0 ∙ ap (drop (tables_size h)) behind)
     c.in_err-names.field-0.0 c.in_err-names.ensures) in
-    record { value = value; written = written bs _ value; answers = own_tables c.from_residual-in_err-names.result }
+    record { value = value; written = written bs _ value; answers = own_tables bs _ (written bs _ value) }
 
 pub returns : goal.returns
 returns c =
@@ -46,4 +46,4 @@ returns c =
     ∙ file_read bs h c.in_ok-header.ensures.value whole (rows_of c.in_ok-tables.tables)
     (tables.value ∙ ap (tables_at h 10) behind) c.tables-2.new.self.at c.tables-2.new.self.bytes.now tables.rest.1 (tables.rest.0 ∙ ap (drop (tables_size h)) behind)
     _ c.in_ok-names.ensures in
-    record { value = value; written = written bs _ value; answers = own_tables (Ok c.file_with.result) }
+    record { value = value; written = written bs _ value; answers = own_tables bs (Ok c.file_with.result) (written bs _ value) }
