@@ -105,7 +105,7 @@ impl<'a> Rest<'a> {
         };
         let at = self.at;
         let length = usize::from(*first);
-        // Two comparisons: with `contains` the check does not find that the name's bytes, and the place behind them, fit.
+        // Two comparisons: behind `contains` the check leaves open what is answered for a bad byte and for a name.
         if length < 1 || length > NAME_LIMIT {
             return Err(BookFault::NameByte { at });
         }
