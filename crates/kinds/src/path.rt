@@ -102,27 +102,21 @@ impl Path<'_> {
         1 << self.steps.len()
     }
 
-    // Inside an item with this tag, are the first `place` steps matched?
-    fn reaches(&self, set: u16, tag: u8, place: usize) -> bool
-        requires { place < length self.now.steps.now }
-        ensures { result ≡ (keeps self.now.steps.now set place || adds self.now.steps.now set tag place) }
-    {
-        let kept = has(set, place) && self.steps[place].descends();
-        let added = place > 0 && has(set, place - 1) && self.steps[place - 1].fits(tag);
-        kept || added
-    }
-
     // The set inside an item with this tag.
-    #[tactic(auto, using(std::proofs::lemmas::Nat::one_shl, std::proofs::Common::pow_mono, crate::specs::Path::set_of_below, crate::proofs::Paths::set_more))]
+    #[tactic(auto, using(std::proofs::lemmas::Nat::one_shl, std::proofs::Common::pow_mono, crate::specs::Path::set_of_below, crate::proofs::Paths::set_more, crate::proofs::Paths::adds_more))]
     fn enter_set(&self, set: u16, tag: u8) -> u16
         ensures { result ≡ enter_set self.now.steps.now set tag }
     {
         let mut next = 0;
-        // It goes over the bits of the set, each by the step there and the one before.
-        for place in 0..self.steps.len() {
-            if self.reaches(set, tag, place) {
+        // whether the step before leads here
+        let mut added = false;
+        for (place, step) in self.steps.iter().enumerate() {
+            let here = has(set, place);
+            let kept = here && step.descends();
+            if kept || added {
                 next += 1 << place;
             }
+            added = here && step.fits(tag);
         }
         next
     }
@@ -165,6 +159,7 @@ impl Row {
             tag: TagTest::Any,
         };
         let mut steps = [filler; MOST_STEPS];
+        // Written by place: behind a loop over `iter_mut` a proof knows no element.
         for (place, step) in given.iter().enumerate() {
             steps[place] = PathStep::try_from(*step)?;
         }
