@@ -1,6 +1,6 @@
 // The path book: it selects the items whose tags from the top down fit a row of steps.
-ghost use Rattle.std.specs.Prelude.{◌≡◌, ◌^◌, ◌<◌, ◌≤◌, true, false, ◌||◌, map, length, take, MatchResult};
-ghost use Rattle.book.specs.Limits.{most_steps};
+ghost use Rattle.std.specs.Prelude.{◌≡◌, ◌^◌, ◌<◌, ◌≤◌, true, false, ◌&&◌, ◌||◌, nat_lt, map, length, take, MatchResult};
+ghost use Rattle.book.specs.Limits.{tags, most_steps};
 ghost use Rattle.book.specs.declared.fault.BookFault.TheVariants.{PathSteps};
 ghost use Rattle.kinds.specs.Path.{steps_right, path_right, step_of, step_from, steps_of, descends, fits, member, keeps, adds, enter_set, matches, path_machine, path_marks, few_steps, path_lawful, path_marks_lawful, PathSelects};
 
@@ -198,6 +198,13 @@ impl PathBook {
             steps: &self.row.steps[..self.row.count],
         }
     }
+
+    // Is this a state of the book, and this a tag?
+    fn asks(&self, state: u16, tag: u8) -> bool
+        ensures { result ≡ (nat_lt state (path_machine (steps_of self.now.row)).width && nat_lt tag tags) }
+    {
+        state < self.width() && tag < TAGS
+    }
 }
 
 // A state below `miss` is a set of matched steps; `miss + 1` is hit.
@@ -217,7 +224,7 @@ impl ShapeBook for PathBook {
     fn enter(&self, state: u16, tag: u8) -> u16 {
         let path = self.path();
         let miss = path.sets();
-        if state > miss + 1 || tag >= TAGS {
+        if !self.asks(state, tag) {
             0
         } else if state < miss {
             path.enter_set(state, tag)
@@ -228,7 +235,7 @@ impl ShapeBook for PathBook {
 
     fn back(&self, outer: u16, inner: u16, tag: u8) -> u16 {
         let miss = self.path().sets();
-        if outer > miss + 1 || inner > miss + 1 || tag >= TAGS {
+        if !self.asks(outer, tag) || !self.asks(inner, tag) {
             0
         } else if inner < miss {
             outer
@@ -250,7 +257,7 @@ impl SelectingBook for PathBook {
     fn mark(&self, state: u16, tag: u8) -> u16 {
         let path = self.path();
         let miss = path.sets();
-        if state > miss + 1 || tag >= TAGS {
+        if !self.asks(state, tag) {
             0
         } else if state >= miss {
             state
