@@ -19,6 +19,7 @@ pub fn run_goes_on_stands()
 {}
 
 // A run has set aside one state for each open item.
+#[tactic(auto, using(crate::proofs::Steps::one_aside_for_each))]
 pub fn one_aside_for_each_stands()
     ensures { OneAsideForEach }
 {}
@@ -44,6 +45,7 @@ pub fn levels_decide_stands()
 
 // With a table that fits, two computed tests decide whether an opened item is due, dropped or held, and whether all,
 // none or some endings are accepted.
+#[tactic(auto, using(crate::proofs::Tables::tables_decide_item, crate::proofs::Tables::tables_decide_acceptance))]
 pub fn tables_decide_stands()
     ensures item { TablesDecideItem }
     ensures acceptance { TablesDecideAcceptance }
@@ -52,11 +54,13 @@ pub fn tables_decide_stands()
 // Due, dropped, held --------------------------------------------------------------------------------------------
 
 // There is always an ending.
+#[tactic(auto, using(crate::proofs::Earliest::always_ending))]
 pub fn always_ending_stands()
     ensures { AlwaysEnding }
 {}
 
 // An opened item is one, and not two, of due, dropped and held.
+#[tactic(auto, using(crate::proofs::Earliest::items_are_one_of_three))]
 pub fn one_of_three_stands()
     ensures { ItemsAreOneOfThree }
 {}
@@ -89,6 +93,7 @@ pub fn order_right_if_due_stands()
 {}
 
 // An order of an item that is not due is wrong in some catalogue that the events begin.
+#[tactic(auto, using(crate::proofs::Earliest::too_early_is_wrong))]
 pub fn too_early_is_wrong_stands()
     ensures { TooEarlyIsWrong }
 {}
@@ -101,6 +106,7 @@ pub fn one_outcome_stands()
 {}
 
 // A call is refused with the line that is met and has no line above it that is.
+#[tactic(auto, using(crate::proofs::Checks::refused_by_topmost))]
 pub fn refused_by_topmost_stands()
     ensures { RefusedByTopmost }
 {}
@@ -117,6 +123,7 @@ pub fn accepted_calls_stands()
 {}
 
 // What each call is refused with.
+#[tactic(auto, using(crate::proofs::Acceptance::calls_are_refused, crate::proofs::Acceptance::watch_calls_are_refused))]
 pub fn calls_are_refused_stands()
     ensures scan { CallsAreRefused }
     ensures watch { WatchCallsAreRefused }
@@ -132,21 +139,25 @@ pub fn numbers_stands()
 // The events so far ---------------------------------------------------------------------------------------------
 
 // Calls bring one list of events at most.
+#[tactic(auto, using(crate::proofs::History::one_history))]
 pub fn one_history_stands()
     ensures { OneHistory }
 {}
 
 // Any calls bring some list of events.
+#[tactic(auto, using(crate::proofs::Telling::some_history))]
 pub fn some_history_stands()
     ensures { SomeHistory }
 {}
 
 // The events that calls bring break no rule of the catalogue.
+#[tactic(auto, using(crate::proofs::History::history_is_sound))]
 pub fn history_is_sound_stands()
     ensures { HistoryIsSound }
 {}
 
 // The events that calls bring stay within the limits.
+#[tactic(auto, using(crate::proofs::Acceptance::history_within_limits))]
 pub fn history_within_limits_stands()
     ensures { HistoryWithinLimits }
 {}
@@ -175,6 +186,7 @@ pub fn orders_are_the_due_stands()
 {}
 
 // Each order record tells its item, the event that opened it and the event at which it became due.
+#[tactic(auto, using(crate::proofs::Records::records_are_true))]
 pub fn records_are_true_stands()
     ensures { RecordsAreTrue }
 {}
@@ -195,6 +207,7 @@ pub fn totals_are_true_stands()
 {}
 
 // No call orders more than 129 items; the other records stay, and so does a list at a refusal.
+#[tactic(auto, using(crate::proofs::Room::lists_are_kept))]
 pub fn lists_are_kept_stands()
     ensures { ListsAreKept }
 {}
@@ -212,6 +225,7 @@ pub fn verdicts_mean_stands()
 {}
 
 // Events that break no rule have one verdict at most.
+#[tactic(auto, using(crate::proofs::Watch::one_verdict))]
 pub fn one_verdict_stands()
     ensures { OneVerdict }
 {}

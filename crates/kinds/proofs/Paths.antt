@@ -34,6 +34,10 @@ lower_bit j m x h =
 pub set_more : (p : ℕ → Bool) (m : ℕ) → set_of p (m + 1) ≡ set_of p m + cond (p m) (2 ^ m) 0
 set_more p m = ap (set_of p) (add-one m)
 
+-- one place more
+pub adds_more : (steps : List PathStep) (s t j : ℕ) → adds steps s t (j + 1) ≡ (member s j && fits (step_at steps j) t)
+adds_more steps s t j = ap (adds steps s t) (add-one j)
+
 member_set_of : (p : ℕ → Bool) (m j : ℕ) → j < m → member (set_of p m) j ≡ p j
 member_set_of p zero j h = absurd (omega arith)
 member_set_of p (suc m) j h =

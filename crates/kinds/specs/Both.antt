@@ -42,6 +42,9 @@ both_marks m n x y = by_parts m.width n.width x y
 
 -- Rules of range --------------------------------------------------------------------------------------------------
 
+-- The proofs stand here and not in proofs/, since the impls name them for the laws of their traits, which may name
+-- nothing of their own crate outside specs/.
+
 pub both_narrow : (v w : ℕ) → both_width v w ≤ most_states
 both_narrow v w = grind (arith, nat_tests)
 

@@ -27,6 +27,9 @@ level_machine d =
 
 -- Rules of range --------------------------------------------------------------------------------------------------
 
+-- The proofs stand here and not in proofs/, since the impls name them for the laws of their traits, which may name
+-- nothing of their own crate outside specs/.
+
 pub level_lawful : (d : ℕ) → d ≤ most_depth → Lawful (level_machine d)
 level_lawful d h =
     record {

@@ -20,6 +20,9 @@ opposite m =
 
 -- Rules of range --------------------------------------------------------------------------------------------------
 
+-- The proofs stand here and not in proofs/, since the impls name them for the laws of their traits, which may name
+-- nothing of their own crate outside specs/.
+
 pub opposite_lawful : (m : Machine) → Lawful m → Lawful (opposite m)
 opposite_lawful m law =
     record {

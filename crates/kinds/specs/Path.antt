@@ -117,6 +117,9 @@ path_marks steps s t =
 
 -- Rules of range --------------------------------------------------------------------------------------------------
 
+-- The proofs stand here and not in proofs/, since the impls name them for the laws of their traits, which may name
+-- nothing of their own crate outside specs/.
+
 pub set_of_below : (p : ℕ → Bool) (m : ℕ) → set_of p m < 2 ^ m
 set_of_below p zero = omega arith
 set_of_below p (suc m) = one (p m) (set_of_below p m)

@@ -32,7 +32,8 @@ impl<L: ShapeBook, R: ShapeBook> Both<L, R> {
     }
 }
 
-// No effect: what two books accept and select together. `new` shows it by this call.
+// No effect: what two books accept and select together. It is a function so that its call in `new` can be taken away:
+// must-fail/new_both_unshown.edit.
 fn laws<L: ShapeBook, R: ShapeBook>(left: &L, right: &R)
     ensures accepts { BothAccepts (L.machine left.now) (R.machine right.now) }
     ensures selects { BothSelects (L.machine left.now) (R.machine right.now) }
@@ -107,7 +108,8 @@ impl<L: ShapeBook, R: ShapeBook> ShapeBook for Both<L, R> {
         widths.join(self.left.start(), self.right.start())
     }
 
-    // `mark` goes the same way: one function for both would need two closures, and what they answer, in its contract.
+    // `mark` goes the same way. One function for both would take two closures and say in its contract what each answers,
+    // which is longer than the five lines.
     fn enter(&self, state: u16, tag: u8) -> u16 {
         let widths = self.widths();
         let Some((left, right)) = widths.parts(state) else {

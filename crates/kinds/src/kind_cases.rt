@@ -1,4 +1,4 @@
-// Worked cases of the kinds of book: proved as one statement, and run.
+// Worked cases of the kinds of book: proved as one statement, and run. The tests also show how refusals are printed.
 ghost use Rattle.kinds.specs.KindCases.{KindCases};
 
 pub fn kind_cases_stand()
@@ -35,12 +35,9 @@ mod tests {
         book.mark(book.width(), 0) == 0 && book.mark(0, 32) == 0
     }
 
-    fn path_refusal(steps: &[Step]) -> Option<u32> {
-        PathBook::new(steps).err().map(BookFault::number)
-    }
-
-    fn level_refusal(depth: u8) -> Option<u32> {
-        LevelShape::new(depth).err().map(BookFault::number)
+    // The number with which a book is refused, if it is.
+    fn refusal<B: Copy>(made: Result<B, BookFault>) -> Option<u32> {
+        made.err().map(BookFault::number)
     }
 
     #[test]
@@ -94,16 +91,27 @@ mod tests {
 
     #[test]
     fn refused_at_the_edges(rt: HostRuntime) {
-        assert_eq!(rt; path_refusal(&[]), Some(19));
-        assert_eq!(rt; path_refusal(&[CHILD_ANY; 5]), Some(19));
-        assert_eq!(rt; path_refusal(&[CHILD_ANY; 4]), None);
-        assert_eq!(rt; path_refusal(&[Step { axis: 2, tag: 1 }]), Some(19));
-        assert_eq!(rt; path_refusal(&[Step { axis: 1, tag: 32 }]), Some(19));
-        assert_eq!(rt; path_refusal(&[Step { axis: 1, tag: 254 }]), Some(19));
-        assert_eq!(rt; path_refusal(&[Step { axis: 1, tag: 31 }]), None);
-        assert_eq!(rt; level_refusal(0), Some(20));
-        assert_eq!(rt; level_refusal(33), Some(20));
-        assert!(rt; level_refusal(1).is_none() && level_refusal(32).is_none());
+        assert_eq!(rt; refusal(PathBook::new(&[])), Some(19));
+        assert_eq!(rt; refusal(PathBook::new(&[CHILD_ANY; 5])), Some(19));
+        assert_eq!(rt; refusal(PathBook::new(&[CHILD_ANY; 4])), None);
+        assert_eq!(rt;
+            refusal(PathBook::new(&[Step { axis: 2, tag: 1 }])),
+            Some(19)
+        );
+        assert_eq!(rt;
+            refusal(PathBook::new(&[Step { axis: 1, tag: 32 }])),
+            Some(19)
+        );
+        assert_eq!(rt;
+            refusal(PathBook::new(&[Step { axis: 1, tag: 254 }])),
+            Some(19)
+        );
+        assert_eq!(rt; refusal(PathBook::new(&[Step { axis: 1, tag: 31 }])), None);
+        assert_eq!(rt; refusal(LevelShape::new(0)), Some(20));
+        assert_eq!(rt; refusal(LevelShape::new(33)), Some(20));
+        assert!(rt;
+            refusal(LevelShape::new(1)).is_none() && refusal(LevelShape::new(32)).is_none()
+        );
     }
 
     #[test]

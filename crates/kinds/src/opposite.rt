@@ -28,13 +28,15 @@ impl<B: ShapeBook> Opposite<B> {
     }
 }
 
-// No effect: what the opposite of a book accepts and selects. `new` shows it by this call.
+// No effect: what the opposite of a book accepts and selects. It is a function so that its call in `new` can be taken
+// away: must-fail/new_opposite_unshown.edit.
 #[tactic(auto, using(crate::proofs::Opposites::opposite_accepts, crate::proofs::Opposites::opposite_selects))]
 fn laws<B: ShapeBook>(book: &B)
     ensures accepts { OppositeAccepts (B.machine book.now) }
     ensures selects { OppositeSelects (B.machine book.now) }
 {}
 
+// Four questions it answers as the other book does; the language has no shorter way to say that of each method.
 impl<B: ShapeBook> ShapeBook for Opposite<B> {
     ghost machine = { λ o. opposite (B.machine o.book) };
 

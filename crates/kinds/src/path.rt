@@ -1,6 +1,6 @@
 // The path book: it selects the items whose tags from the top down fit a row of steps.
-ghost use Rattle.std.specs.Prelude.{◌≡◌, ◌^◌, ◌<◌, ◌≤◌, true, false, ◌||◌, map, length, take, MatchResult};
-ghost use Rattle.book.specs.Limits.{most_steps};
+ghost use Rattle.std.specs.Prelude.{◌≡◌, ◌^◌, ◌<◌, ◌≤◌, true, false, ◌&&◌, ◌||◌, nat_lt, map, length, take, MatchResult};
+ghost use Rattle.book.specs.Limits.{tags, most_steps};
 ghost use Rattle.book.specs.declared.fault.BookFault.TheVariants.{PathSteps};
 ghost use Rattle.kinds.specs.Path.{steps_right, path_right, step_of, step_from, steps_of, descends, fits, member, keeps, adds, enter_set, matches, path_machine, path_marks, few_steps, path_lawful, path_marks_lawful, PathSelects};
 
@@ -102,27 +102,21 @@ impl Path<'_> {
         1 << self.steps.len()
     }
 
-    // Inside an item with this tag, are the first `place` steps matched?
-    fn reaches(&self, set: u16, tag: u8, place: usize) -> bool
-        requires { place < length self.now.steps.now }
-        ensures { result ≡ (keeps self.now.steps.now set place || adds self.now.steps.now set tag place) }
-    {
-        let kept = has(set, place) && self.steps[place].descends();
-        let added = place > 0 && has(set, place - 1) && self.steps[place - 1].fits(tag);
-        kept || added
-    }
-
     // The set inside an item with this tag.
-    #[tactic(auto, using(std::proofs::lemmas::Nat::one_shl, std::proofs::Common::pow_mono, crate::specs::Path::set_of_below, crate::proofs::Paths::set_more))]
+    #[tactic(auto, using(std::proofs::lemmas::Nat::one_shl, std::proofs::Common::pow_mono, crate::specs::Path::set_of_below, crate::proofs::Paths::set_more, crate::proofs::Paths::adds_more))]
     fn enter_set(&self, set: u16, tag: u8) -> u16
         ensures { result ≡ enter_set self.now.steps.now set tag }
     {
         let mut next = 0;
-        // It goes over the bits of the set, each by the step there and the one before.
-        for place in 0..self.steps.len() {
-            if self.reaches(set, tag, place) {
+        // whether the step before leads here
+        let mut added = false;
+        for (place, step) in self.steps.iter().enumerate() {
+            let here = has(set, place);
+            let kept = here && step.descends();
+            if kept || added {
                 next += 1 << place;
             }
+            added = here && step.fits(tag);
         }
         next
     }
@@ -165,6 +159,7 @@ impl Row {
             tag: TagTest::Any,
         };
         let mut steps = [filler; MOST_STEPS];
+        // Written by place: behind a loop over `iter_mut` a proof knows no element.
         for (place, step) in given.iter().enumerate() {
             steps[place] = PathStep::try_from(*step)?;
         }
@@ -203,6 +198,13 @@ impl PathBook {
             steps: &self.row.steps[..self.row.count],
         }
     }
+
+    // Is this a state of the book, and this a tag?
+    fn asks(&self, state: u16, tag: u8) -> bool
+        ensures { result ≡ (nat_lt state (path_machine (steps_of self.now.row)).width && nat_lt tag tags) }
+    {
+        state < self.width() && tag < TAGS
+    }
 }
 
 // A state below `miss` is a set of matched steps; `miss + 1` is hit.
@@ -222,7 +224,7 @@ impl ShapeBook for PathBook {
     fn enter(&self, state: u16, tag: u8) -> u16 {
         let path = self.path();
         let miss = path.sets();
-        if state > miss + 1 || tag >= TAGS {
+        if !self.asks(state, tag) {
             0
         } else if state < miss {
             path.enter_set(state, tag)
@@ -233,7 +235,7 @@ impl ShapeBook for PathBook {
 
     fn back(&self, outer: u16, inner: u16, tag: u8) -> u16 {
         let miss = self.path().sets();
-        if outer > miss + 1 || inner > miss + 1 || tag >= TAGS {
+        if !self.asks(outer, tag) || !self.asks(inner, tag) {
             0
         } else if inner < miss {
             outer
@@ -255,7 +257,7 @@ impl SelectingBook for PathBook {
     fn mark(&self, state: u16, tag: u8) -> u16 {
         let path = self.path();
         let miss = path.sets();
-        if state > miss + 1 || tag >= TAGS {
+        if !self.asks(state, tag) {
             0
         } else if state >= miss {
             state
