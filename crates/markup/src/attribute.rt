@@ -10,7 +10,7 @@ impl<'a> Cursor<'a> {
     pub(crate) fn attributes(&mut self) -> Result<u8, ReaderFault>
         ensures { Shuts self.old result self.new }
     {
-        'attributes: loop {
+        loop {
             let b = self.peek()?;
             if !is_white(b) {
                 return Ok(b);

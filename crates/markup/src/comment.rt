@@ -20,7 +20,7 @@ impl<'a> Cursor<'a> {
     fn comment(&mut self) -> Result<(), ReaderFault>
         ensures { Way self.old in_comment in_text result self.new }
     {
-        'bytes: loop {
+        loop {
             if self.take(is_allowed)? == b'-' && self.take(is_allowed)? == b'-' {
                 self.take(|b| b == b'>')?;
                 return Ok(());

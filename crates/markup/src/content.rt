@@ -10,7 +10,7 @@ impl<'a> Cursor<'a> {
     pub(crate) fn content(&mut self, stop: u8) -> Result<(), ReaderFault>
         ensures { Contents self.old stop result self.new }
     {
-        'content: loop {
+        loop {
             self.skip(|b| is_plain(b, stop));
             if !self.is_at(b'&') {
                 return Ok(());

@@ -19,20 +19,17 @@ impl<'a> Cursor<'a> {
     pub(crate) fn is_at(&self, b: u8) -> bool
         ensures { IsAt self.now b result }
     {
-        match self.text.get(self.place) {
-            Some(c) => *c == b,
-            None => false,
-        }
+        self.text.get(self.place).is_some_and(|c| *c == b)
     }
 
     // The byte at the cursor; a text that ends there is cut off.
     pub(crate) fn peek(&self) -> Result<u8, ReaderFault>
         ensures { Peeked self.now result }
     {
-        match self.text.get(self.place) {
-            Some(b) => Ok(*b),
-            None => Err(ReaderFault::CutOff { length: self.place }),
-        }
+        self.text
+            .get(self.place)
+            .copied()
+            .ok_or(ReaderFault::CutOff { length: self.place })
     }
 
     // Past the byte at the cursor, if it fits; any other is refused with the fault.

@@ -27,7 +27,7 @@ impl<'a> Cursor<'a> {
     pub(crate) fn next_tag(&mut self) -> Result<Option<TagPlaces>, ReaderFault>
         ensures { Tagged self.old result self.new }
     {
-        'pieces: loop {
+        loop {
             self.content(b'<')?;
             let at = self.place;
             if at == self.text.len() {

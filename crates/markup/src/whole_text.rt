@@ -20,14 +20,10 @@ pub fn read_all<'a>(heap: Global, text: &'a [u8]) -> Result<WholeText<'a>, Alloc
 {
     let mut reader = Reader::new(text);
     let mut tags = Vec::new(heap);
-    'tags: loop {
+    loop {
         match reader.next() {
-            Ok(token) => {
-                if matches!(token, Token::Finish) {
-                    return Ok(WholeText { tags, fault: None });
-                }
-                tags.push(token)?;
-            }
+            Ok(Token::Finish) => return Ok(WholeText { tags, fault: None }),
+            Ok(token) => tags.push(token)?,
             Err(fault) => return Ok(WholeText {
                 tags,
                 fault: Some(fault),

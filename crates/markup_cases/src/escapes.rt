@@ -7,7 +7,7 @@ use std::alloc::{AllocError, Global};
 pub(crate) fn unescaped(heap: Global, line: &[u8]) -> Result<Vec<u8>, AllocError> {
     let mut bytes = Vec::new(heap);
     let mut rest = line;
-    'line: while let Some((b, behind)) = first_byte(rest) {
+    while let Some((b, behind)) = first_byte(rest) {
         bytes.push(b)?;
         rest = behind;
     }
@@ -29,7 +29,7 @@ fn first_byte(line: &[u8]) -> Option<(u8, &[u8])>
     }
 }
 
-// The value of a hexadecimal digit, 0 for any other byte.
+// The value of a lower hexadecimal digit, 0 for any other byte; `to_digit` would take capitals too.
 fn digit(b: u8) -> u8
     ensures { result < 16 }
 {

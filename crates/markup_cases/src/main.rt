@@ -5,7 +5,8 @@
 
 use changes::{long_text, note_changes, note_prefixes};
 use escapes::unescaped;
-use markup_host::{markup_number, markup_place, markup_tags};
+use markup::ReaderFault;
+use markup_host::{Summary, summarize};
 
 mod changes;
 mod counts;
@@ -15,9 +16,9 @@ fn main(rt: HostRuntime) -> anyhow::Result<()> {
     for line in rt.lines(rt.alloc()) {
         let line = line?;
         let text = unescaped(rt.alloc(), line.as_bytes())?;
-        let number = markup_number(text.as_slice());
-        let place = markup_place(text.as_slice());
-        let tags = markup_tags(text.as_slice());
+        let Summary { tags, fault } = summarize(text.as_slice());
+        let number = fault.map_or(0, ReaderFault::number);
+        let place = fault.map_or(0, ReaderFault::place);
         println!(rt; "{number} {place} {tags} {line}")?;
     }
     let counts = note_prefixes(long_text());

@@ -1,5 +1,5 @@
-// The reader for host programs: how the reading of a text ends, and how many tags it gives. `summarize` has the fault as it is; the
-// other functions are what C programs can take, numbers.
+// The reader for host programs: how the reading of a text ends, and how many tags it gives. `summarize` gives the fault itself; the
+// other functions give numbers, which is what C programs can take.
 #![tactic(auto)]
 
 ghost use Rattle.markup.specs.Reading.{reading};
@@ -23,8 +23,9 @@ pub fn summarize(text: &[u8]) -> Summary
     ensures fault { ending result.fault ≡ (reading text.now).ended }
 {
     let mut reader = Reader::new(text);
+    // counted here: the reader is no iterator, since its finish and its fault come again at each call
     let mut tags: u64 = 0;
-    'tags: loop {
+    loop {
         match reader.next() {
             Ok(Token::Open { .. } | Token::Close { .. }) => tags = tags.saturating_add(1),
             Ok(Token::Finish) => return Summary { tags, fault: None },

@@ -1,4 +1,5 @@
 // The reader for host programs in C, a static library: how the reading of a text ends, and how many tags it gives.
+// C programs link these names, so each function stands here once more and passes its call on.
 #![tactic(auto)]
 
 ghost use Rattle.markup.specs.Reading.{reading};

@@ -7,12 +7,12 @@ use Rattle.markup_host.specs.Endings.{capped}
 use lib.ListN.{length}
 use mathlib.Core.Path.{◌≡◌}
 
-abbrev pub invariant-tags : goal.invariant-tags
-invariant-tags l = record {
+abbrev pub invariant-loop-tags : goal.invariant-loop-tags
+invariant-loop-tags l = record {
   fits : l.tags ≤ 18446744073709551615;
   counted : capped (length (reading l.text).given) ≡ capped (l.tags + length (remaining l.reader).given);
   ends : (reading l.text).ended ≡ (remaining l.reader).ended;
 }
 
-abbrev pub decreases-tags : goal.decreases-tags
-decreases-tags l = length (remaining l.reader).given
+abbrev pub decreases-loop-tags : goal.decreases-loop-tags
+decreases-loop-tags l = length (remaining l.reader).given

@@ -1,18 +1,17 @@
 -- What is left to show of `read_all` in src/whole_text.rt.
 use Rattle.markup.proofs.Shown.{all_shown_more, finishes, gives_tag, giving_more}
 use Rattle.markup.proofs.whole_text.read_all.Goals as goal
-use Rattle.markup.proofs.whole_text.read_all.Goals.{in-Finish, in_default}
 use Rattle.markup.specs.declared.token.Token.{Token}
 use Rattle.markup.specs.Whole.{AllShown, Shows}
 use Rattle.std.proofs.Common.{◌≡◌, ℕ, false, List, [], ◌∷◌, ◌++◌, sym, ◌∙◌, subst, rules}
 
-pub tags-preserved : goal.tags-preserved
-tags-preserved c =
+pub loop-tags-preserved : goal.loop-tags-preserved
+loop-tags-preserved c =
     let s = c.args.text.now in
-    let i = c.tags.invariant in
+    let i = c.loop-tags.invariant in
     let x = c.in-Ok.token in
-    let tag : finishes x ≡ false = elim c.match-matches.branch [ in-Finish w ↦ cc | in_default w ↦ search rules ] in
-    let g = gives_tag c.tags.reader c.next.new.self x c.in-Ok.ensures.gives tag in
+    let tag : finishes x ≡ false = search rules in
+    let g = gives_tag c.loop-tags.reader c.next.new.self x c.in-Ok.ensures.gives tag in
     let h : Shows s g.0 x = subst (λ (z : List ℕ). Shows z g.0 x) i.0 g.1 in (
       c.next.ensures.text ∙ i.0,
       (

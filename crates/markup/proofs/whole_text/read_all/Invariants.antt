@@ -6,10 +6,10 @@ use Rattle.markup.specs.Tokens.{remaining}
 use Rattle.markup.specs.Whole.{AllShown}
 use Rattle.std.proofs.Common.{◌≡◌, List, length, vec_items}
 
-abbrev pub invariant-tags : goal.invariant-tags
-invariant-tags l =
+abbrev pub invariant-loop-tags : goal.invariant-loop-tags
+invariant-loop-tags l =
     (l.reader.cursor.text.now ≡ l.text)
     × ((ts : List Tag) × AllShown l.text ts (vec_items l.tags) × (reading l.text ≡ giving ts (remaining l.reader)))
 
-abbrev pub decreases-tags : goal.decreases-tags
-decreases-tags l = length (remaining l.reader).given
+abbrev pub decreases-loop-tags : goal.decreases-loop-tags
+decreases-loop-tags l = length (remaining l.reader).given

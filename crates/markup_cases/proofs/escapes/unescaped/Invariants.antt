@@ -2,5 +2,5 @@
 use Rattle.std.proofs.Common.{length}
 use Rattle.markup_cases.proofs.escapes.unescaped.Given as goal
 
-abbrev pub decreases-line : goal.decreases-line
-decreases-line l = length l.rest
+abbrev pub decreases-loop-b : goal.decreases-loop-b
+decreases-loop-b l = length l.rest

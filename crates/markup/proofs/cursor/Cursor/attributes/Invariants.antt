@@ -4,8 +4,8 @@ use Rattle.markup.specs.Reading.{valued}
 use Rattle.markup.specs.Parts.{Goes}
 use Rattle.markup.proofs.cursor.Cursor.attributes.Given as goal
 
-abbrev pub invariant-attributes : goal.invariant-attributes
-invariant-attributes l = (at k : ℕ) → Goes l.initial.self (valued at k) l.self (valued at k)
+abbrev pub invariant-loop-b : goal.invariant-loop-b
+invariant-loop-b l = (at k : ℕ) → Goes l.initial.self (valued at k) l.self (valued at k)
 
-abbrev pub decreases-attributes : goal.decreases-attributes
-decreases-attributes l = length l.self.text.now - l.self.place
+abbrev pub decreases-loop-b : goal.decreases-loop-b
+decreases-loop-b l = length l.self.text.now - l.self.place

@@ -4,8 +4,8 @@ use Rattle.markup.specs.Reading.{Where, stop_of, in_content}
 use Rattle.markup.specs.Parts.{Goes}
 use Rattle.markup.proofs.cursor.Cursor.content.Given as goal
 
-abbrev pub invariant-content : goal.invariant-content
-invariant-content l = (w : Where) → stop_of w ≡ l.stop → Goes l.initial.self (in_content w) l.self (in_content w)
+abbrev pub invariant-loop-stop : goal.invariant-loop-stop
+invariant-loop-stop l = (w : Where) → stop_of w ≡ l.stop → Goes l.initial.self (in_content w) l.self (in_content w)
 
-abbrev pub decreases-content : goal.decreases-content
-decreases-content l = length l.self.text.now - l.self.place
+abbrev pub decreases-loop-stop : goal.decreases-loop-stop
+decreases-loop-stop l = length l.self.text.now - l.self.place
