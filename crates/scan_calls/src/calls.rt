@@ -44,6 +44,8 @@ impl<B: SelectingBook> Scan<B> {
         }
     }
 
+    // The three calls of the subject by their names; `send` takes any of them.
+
     // An item of this tag opens.
     pub fn open(&mut self, tag: u8, orders: &mut [Order]) -> Result<Totals, Refusal>
         ensures { Called (Open tag) self.old self.new orders.old orders.new result }
