@@ -16,7 +16,8 @@ pub struct Cell {
     // the item whose run it is, and the event that opened it; the base run has 0 and 0, which nothing reads
     item: u32,
     since: u32,
-    // the run's cell in the level around this one
+    // the place of the run's cell in the level around this one: a place and no reference, since all cells are parts of one
+    // fixed array
     parent: u8,
     level: Level,
 }
@@ -112,7 +113,7 @@ impl Cell {
     }
 }
 
-// Past the last cell there is the cell of no run.
+// Past the last cell there is the cell of no run, and no Option: leaving a level cannot fail.
 pub fn cell_at(cells: &[Cell], place: usize) -> Cell
     ensures { result ≡ cell_at cells.now place }
 {

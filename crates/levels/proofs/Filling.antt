@@ -2,6 +2,7 @@
 use Rattle.std.proofs.Common.{◌≡◌, ℕ, ◌+◌, ◌<◌, ◌≤◌, Bool, true, false, ◌&&◌, ◌||◌, eqb, ltb, ◌≢◌, ◌⊎◌, ◌↔◌, sym, refl, ap, ◌∙◌, inl, inr, arith}
 use Rattle.std.proofs.lemmas.Bool.{lt-ltb, le-ltb, eq-eqb, ne_eqb, cases_lt, cases_eq, cases_Bool, and_from, and_parts, both_ways}
 use Rattle.std.proofs.Math.Bool.{or-false, and-false, and-true}
+use Rattle.book.specs.Limits.{most_states}
 use Rattle.book.specs.Tables.{some_below}
 use Rattle.book.proofs.Tables.{some_found, found_some}
 use Rattle.scan.proofs.Tracks.{some_below_alike}
@@ -11,6 +12,13 @@ use Rattle.scan.proofs.Tracks.{some_below_alike}
 -- no state has been asked about
 pub no_state : (P : ℕ → Bool) (q : ℕ) (b : Bool) → b ≡ false → b ≡ (ltb q 0 && P q)
 no_state P q b e = e ∙ ap (λ (c : Bool). c && P q) (sym (le-ltb q 0 (omega arith)))
+
+-- a state is added where it is wanted, and the set stays as it was where not
+pub added : (old new wanted : Bool) (i q : ℕ) → i < most_states → wanted ≡ true → new ≡ (old || (ltb i most_states && eqb q i)) → new ≡ (old || (wanted && eqb q i))
+added old new wanted i q small w is = is ∙ ap (λ (b : Bool). old || (b && eqb q i)) (lt-ltb i most_states small ∙ sym w)
+
+pub not_added : (old new wanted here : Bool) → wanted ≡ false → new ≡ old → new ≡ (old || (wanted && here))
+not_added old new wanted here w is = is ∙ sym (or-false old) ∙ ap (λ (b : Bool). old || (b && here)) (sym w)
 
 -- one state more has been asked about, and the answer to it is w
 pub next_state : (P : ℕ → Bool) (i q : ℕ) (old new w : Bool) → old ≡ (ltb q i && P q) → w ≡ P i → new ≡ (old || (w && eqb q i)) → new ≡ (ltb q (i + 1) && P q)

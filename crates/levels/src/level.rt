@@ -72,7 +72,8 @@ impl Level {
         self.state
     }
 
-    // Can the catalogue still get the answer `wanted`, once this event has been? After the end the state alone says.
+    // Can the catalogue still get the answer `wanted`, once this event has been? After the end the state alone says. `wanted`
+    // is one of the two answers that a catalogue can have, as `accepts` gives them: a value, which picks a set and no step.
     pub fn may_be<B: ShapeBook>(&self, ready: &Ready<B>, event: Event, wanted: bool) -> bool
         ensures { result ≡ may (machine_of ready.now) event wanted (track (level_of self.now) []) }
     {

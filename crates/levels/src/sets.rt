@@ -1,8 +1,7 @@
 // The two sets of a level: the states from which some way on is accepted, and those from which some way on is not.
-ghost use Rattle.std.specs.Prelude.{◌≡◌, ℕ, ◌<◌, ◌≤◌, Bool, true, false, ◌&&◌, ◌||◌, ◌==◌, nat_lt};
+ghost use Rattle.std.specs.Prelude.{◌≡◌, ℕ, ◌<◌, ◌≤◌, Bool, true, false, ◌&&◌, nat_lt};
 ghost use Rattle.book.specs.Limits.{most_states};
 ghost use Rattle.book.specs.Tables.{some_below};
-ghost use Rattle.ready.specs.Sets.{has};
 ghost use Rattle.scan.specs.Tracks.{answers, widened};
 ghost use Rattle.levels.specs.Sets.{machine_of, reach_of, passes, none, closing, Below, Filled};
 
@@ -28,6 +27,8 @@ impl Sets {
         }
     }
 
+    // `wanted` is one of the two answers that a catalogue can have, as `accepts` gives them: a value, which picks a set and no
+    // step.
     pub(crate) fn contains(&self, wanted: bool, state: u16) -> bool
         ensures { result ≡ passes self.now wanted state }
     {
@@ -49,8 +50,12 @@ impl Sets {
         let mut found = Sets::empty();
         for state in 0..width {
             let (accepted, refused) = belongs(state);
-            add_if(&mut found.accepted, state, accepted);
-            add_if(&mut found.refused, state, refused);
+            if accepted {
+                found.accepted.insert(state);
+            }
+            if refused {
+                found.refused.insert(state);
+            }
         }
         found
     }
@@ -99,14 +104,5 @@ impl Sets {
             row.intersects(&self.accepted),
             row.intersects(&self.refused),
         )
-    }
-}
-
-fn add_if(set: &mut StateSet, state: u16, wanted: bool)
-    requires { state < most_states }
-    ensures { (q : ℕ) → has set.new.words q ≡ (has set.old.words q || (wanted && q == state)) }
-{
-    if wanted {
-        set.insert(state);
     }
 }

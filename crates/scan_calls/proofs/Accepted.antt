@@ -15,7 +15,7 @@ use Rattle.scan.specs.Standing.{Stands}
 use Rattle.scan.proofs.Standing.{begins_right, step_kept}
 use Rattle.scan_calls.specs.declared.scanning.Scan.{Scan}
 use Rattle.scan_calls.specs.Rows.{base_of, held_of, Settled}
-use Rattle.scan_calls.specs.Scans.{model_of, meaning_of, table_of, totals_of, Stepped, Called}
+use Rattle.scan_calls.specs.Scans.{model_of, meaning_of, table_of, totals_of, Counted, Stepped, Called}
 use Rattle.scan_calls.proofs.Lines.{ok_is, err_is, apart}
 
 -- the items judged are those that the event leaves pending, and what is counted is counted on
@@ -69,18 +69,29 @@ module _ {B : Type 0} {selects : _} {book : _} (e : Event) (s : Scan B selects b
     unchanged = λ l q. refl;
   }
 
-  -- an accepted one, after which the scan is s'
-  pub accepted : (s' : Scan B selects book) (later : List Order) (sent : ℕ) (items : List Holding) → s'.ready ≡ s.ready → s'.events ≡ suc s.events → items ≡ pending reach m (model_of s) e
-      → Settled m.shape e s'.events items before later sent (held_of s'.rows) s'.rows.count → (model_of s').place ≡ after (model_of s).place e → s'.opened ≡ count s.opened e
-      → s'.ordered ≡ s.ordered + sent → base_of s'.rows ≡ moved reach m.shape e (base_of s.rows) → (a : Totals) → a ≡ totals_of sent s' → Ok (tt {0}) ≡ checked lines scan_lines (tt {0})
+  -- an accepted one: behind it the scan is at first x, whose rows alone are behind the event, and then s'
+  pub accepted : (x s' : Scan B selects book) (later : List Order) (event sent : ℕ) (items : List Holding) → Counted event sent x s' → x.ready ≡ s.ready → event ≡ suc s.events → items ≡ pending reach m (model_of s) e
+      → Settled m.shape e event items before later sent (held_of x.rows) x.rows.count → (model_of x).place ≡ after (model_of s).place e → x.opened ≡ count s.opened e
+      → x.ordered ≡ s.ordered → base_of x.rows ≡ moved reach m.shape e (base_of s.rows) → (a : Totals) → a ≡ totals_of sent s' → Ok (tt {0}) ≡ checked lines scan_lines (tt {0})
       → Stepped e s s' before later (Ok a)
-  accepted s' later sent items same number judged settled place opens ordered base a is ok = record {
-    same = same;
-    answer = answer_is reach m e (model_of s) (model_of s') s'.events sent s'.rows.count items before later number judged settled place refl opens ordered base a is ok;
-    list = list_is reach m e (model_of s) (model_of s') s'.events sent s'.rows.count items before later number judged settled place refl opens ordered base a is;
-    model = model_is reach m e (model_of s) (model_of s') s'.events sent s'.rows.count items before later number judged settled place refl opens ordered base;
-    unchanged = λ l q. apart a l q;
-  }
+  accepted x s' later event sent items counts same number judged settled place opens ordered base a is ok =
+      let new : Model = record (model_of x) { events = event; ordered = x.ordered + sent } in
+      let sum : new.ordered ≡ s.ordered + sent = ap (λ (k : ℕ). k + sent) ordered in
+      let told : a ≡ record { orders = sent; opened = new.opened; ordered = new.ordered; dropped = new.opened - (new.ordered + (x.rows.count - 1)); held = x.rows.count - 1 } =
+      is ∙ (λ i. record {
+        orders = sent;
+        opened = (counts.model i).opened;
+        ordered = (counts.model i).ordered;
+        dropped = (counts.model i).opened - ((counts.model i).ordered + ((counts.rows i).count - 1));
+        held = (counts.rows i).count - 1;
+      }) in
+      record {
+        same = counts.ready ∙ same;
+        answer = answer_is reach m e (model_of s) new event sent x.rows.count items before later number judged settled place refl opens sum base a told ok;
+        list = list_is reach m e (model_of s) new event sent x.rows.count items before later number judged settled place refl opens sum base a told;
+        model = counts.model ∙ model_is reach m e (model_of s) new event sent x.rows.count items before later number judged settled place refl opens sum base;
+        unchanged = λ l q. apart a l q;
+      }
 
 -- What the scan over lists does keeps the promise ----------------------------------------------------------------
 

@@ -1,7 +1,7 @@
 -- Lists filled with what passes a test. Assumes nothing.
 use Rattle.std.proofs.Common.{◌≡◌, ℕ, ◌+◌, ◌<◌, ◌≤◌, Bool, true, false, cond, not, ◌&&◌, List, [], ◌∷◌, ◌++◌, map, length, get_or, take, drop, set, filter, sym, refl, ap, ◌∙◌, append_assoc, append-nil, arith, length-append}
 use lib.ListN.{length-map}
-use Rattle.std.proofs.lemmas.List.{map-append, drop_more, take_all, set_at}
+use Rattle.std.proofs.lemmas.List.{map-append, drop_more, set_at}
 use Rattle.std.proofs.lemmas.List.Elements.{filter_more}
 use Rattle.std.proofs.lemmas.Bool.{both_ways}
 
@@ -38,11 +38,6 @@ module _ {X Y : Type 0} (f : X → Y) (p : X → Bool) (xs : List X) (os ys : Li
             ∙ set_at (map f ws) (get_or os n e) (drop (n + 1) os) (f x) n (length-map ws f ∙ sym h.count)
             ∙ sym (ap (λ zs. map f zs ++ drop (n + 1) os) grown ∙ ap (λ r. r ++ drop (n + 1) os) (map-append f ws (x ∷ [])) ∙ append_assoc (map f ws) (f x ∷ []) (drop (n + 1) os));
       }
-
-pub filled_end : {X Y : Type 0} (f : X → Y) (p : X → Bool) (xs : List X) (os ys : List Y) (i n : ℕ) → Filled f p xs os ys i n → length xs ≤ i → (n ≡ length (filter p xs)) × (ys ≡ map f (filter p xs) ++ drop n os)
-filled_end f p xs os ys i n h le =
-    let all = take_all i xs le in
-    (h.count ∙ ap (λ r. length (filter p r)) all, h.rows ∙ ap (λ r. map f (filter p r) ++ drop n os) all)
 
 -- what passes one test does not pass the other
 pub two_kinds : {X : Type 0} (p q : X → Bool) → ((x : X) → p x ≡ true → q x ≡ true → ⊥) → (xs : List X) → length (filter p xs) + length (filter q xs) ≤ length xs

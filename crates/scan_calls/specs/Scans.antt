@@ -44,6 +44,12 @@ meaning_of {selects = selects} {book = book} s = selecting (book.machine s.ready
 abbrev pub totals_of : {B : Type 0} {selects : _} {book : _} → ℕ → Scan B selects book → Totals
 totals_of sent s = record { orders = sent; opened = s.opened; ordered = s.ordered; dropped = s.opened - (s.ordered + (s.rows.count - 1)); held = s.rows.count - 1 }
 
+-- The scan s' is s with one event more, which has this number and gave so many orders; its rows were already behind it.
+pub record Counted {B : Type 0} {selects : _} {book : _} (event sent : ℕ) (s s' : Scan B selects book) : Type 0 where
+  pub ready : s'.ready ≡ s.ready
+  pub rows : s'.rows ≡ s.rows
+  pub model : model_of s' ≡ record (model_of s) { events = event; ordered = s.ordered + sent }
+
 -- the lines of the checks that each call has
 abbrev pub first_lines : List Refusal
 first_lines = NoStates ∷ Ended ∷ ShortList ∷ []

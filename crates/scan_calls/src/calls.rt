@@ -1,10 +1,10 @@
 // The calls of a scan.
-ghost use Rattle.std.specs.Prelude.{◌≡◌, []};
+ghost use Rattle.std.specs.Prelude.{◌≡◌, ◌+◌, ◌*◌, ◌≤◌, if◌then◌else◌, []};
 ghost use Rattle.book.specs.declared.event.Event.TheVariants.{Open, Close, End};
 ghost use Rattle.levels.specs.Sets.{machine_of, reach_of};
 ghost use Rattle.scan.specs.Model.{begun};
 ghost use Rattle.scan.specs.Standing.{Stands};
-ghost use Rattle.scan_calls.specs.Scans.{model_of, meaning_of, table_of, totals_of, Stepped, Called};
+ghost use Rattle.scan_calls.specs.Scans.{model_of, meaning_of, table_of, totals_of, Counted, Stepped, Called};
 
 use crate::limits::DEPTH;
 use crate::scanning::{Rows, Scan};
@@ -43,6 +43,8 @@ impl<B: SelectingBook> Scan<B> {
             Event::End => self.make_end(orders),
         }
     }
+
+    // The three calls of the subject by their names; `send` takes any of them.
 
     // An item of this tag opens.
     pub fn open(&mut self, tag: u8, orders: &mut [Order]) -> Result<Totals, Refusal>
@@ -84,10 +86,8 @@ impl<B: SelectingBook> Scan<B> {
         let sent = self
             .rows
             .settle(&self.ready, Event::Open(tag), event, orders);
-        self.events = event;
         self.opened = item;
-        self.ordered += sent as u32;
-        Ok(self.totals(sent))
+        Ok(self.accept(event, sent))
     }
 
     fn make_close(&mut self, tag: u8, orders: &mut [Order]) -> Result<Totals, Refusal>
@@ -96,9 +96,7 @@ impl<B: SelectingBook> Scan<B> {
         self.check_close(tag, orders.len())?;
         let event = self.events + 1;
         let sent = self.rows.close(&self.ready, tag, event, orders);
-        self.events = event;
-        self.ordered += sent as u32;
-        Ok(self.totals(sent))
+        Ok(self.accept(event, sent))
     }
 
     fn make_end(&mut self, orders: &mut [Order]) -> Result<Totals, Refusal>
@@ -107,10 +105,20 @@ impl<B: SelectingBook> Scan<B> {
         self.check_end(orders.len())?;
         let event = self.events + 1;
         let sent = self.rows.settle(&self.ready, Event::End, event, orders);
+        self.ended = true;
+        Ok(self.accept(event, sent))
+    }
+
+    // A call is accepted, and its rows are already behind its event: the event and its orders are counted, and the answer made.
+    fn accept(&mut self, event: u32, sent: usize) -> Totals
+        requires paced { event + self.old.rows.depth ≤ 2 * self.old.opened + (if self.old.ended then 1 else 0) }
+        requires counted { self.old.ordered + sent + self.old.rows.count ≤ self.old.opened + 1 }
+        ensures scan { Counted event sent self.old self.new }
+        ensures answer { result ≡ totals_of sent self.new }
+    {
         self.events = event;
         self.ordered += sent as u32;
-        self.ended = true;
-        Ok(self.totals(sent))
+        self.totals(sent)
     }
 
     // The answer of an accepted call that gave `sent` orders.

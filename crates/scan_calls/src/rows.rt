@@ -8,7 +8,7 @@ ghost use Rattle.scan.specs.Tracks.{Level, track, moved, marked};
 ghost use Rattle.scan.specs.Model.{onward, is_held};
 ghost use Rattle.scan_calls.specs.Rows.{Only, row_of, item_cells, held_in, base_of, held_of, holding_new, held_child, Settled};
 
-use crate::limits::{CELLS, LEVELS};
+use crate::limits::{CELLS, DEPTH, LEVELS};
 use crate::scanning::Rows;
 use crate::settling::{keep_held, write_orders};
 use book::answer::Order;
@@ -18,7 +18,7 @@ use book::shape_book::ShapeBook;
 use cells::{Cell, cell_at};
 use ready::ready::Ready;
 
-// A row is lent through a local slice `rows`, which the check follows; a loan of `self.cells[depth]` it does not cover yet.
+// A row that is written is lent through a local `rows`: a mutable loan of `self.cells[depth]` the check does not follow.
 impl Rows {
     // Before any event there is the base run alone.
     pub(crate) fn begin(base: Cell) -> Rows
@@ -42,7 +42,7 @@ impl Rows {
         since: u32,
         tag: u8,
     )
-        requires { (self.old.depth ≤ 63) × (self.old.count ≤ 129) }
+        requires { (self.old.depth < DEPTH) × (self.old.count < CELLS) }
         ensures depth { self.new.depth ≡ self.old.depth + 1 }
         ensures count { self.new.count ≡ self.old.count + 1 }
         ensures base { base_of self.new ≡ moved (reach_of ready.now) (machine_of ready.now) (Open tag) (base_of self.old) }
@@ -57,8 +57,8 @@ impl Rows {
         self.count = count + 1;
     }
 
-    // The items in use are judged at the event: how many orders; those that are held stay in use. So it is also in a row
-    // whose cells are already those of a level further out.
+    // The items in use are judged at the event: how many orders; those that are held stay in use. The clause `settled` speaks
+    // of each level up to the current one: behind `leave` the cells are already those of the level around.
     pub(crate) fn settle<B: ShapeBook>(
         &mut self,
         ready: &Ready<B>,
@@ -160,11 +160,12 @@ fn open_cells<B: SelectingBook>(
     since: u32,
     tag: u8,
 )
-    requires { (1 ≤ count) × (count ≤ 129) × (count ≤ length around.now) × (count < length inside.old) }
+    requires { (1 ≤ count) × (count < CELLS) × (count ≤ length around.now) × (count < length inside.old) }
     ensures wide { count ≤ length around.now }
     ensures entered { (k : ℕ) → k < count → seen (cell_at inside.new k) ≡ entered_seen (reach_of ready.now) (machine_of ready.now) k tag (seen (cell_at around.now k)) }
     ensures new { seen (cell_at inside.new count) ≡ beside_seen item since (B.marks ready.now.book (seen (cell_at around.now 0)).level.state tag) (entered_seen (reach_of ready.now) (machine_of ready.now) 0 tag (seen (cell_at around.now 0))) }
 {
+    // by place, which is the new cell's parent too: over a zip with `iter_mut` nothing would be known of the cells written
     for (place, cell) in around[..count].iter().enumerate() {
         inside[place] = cell.entered(ready, place as u8, tag);
     }

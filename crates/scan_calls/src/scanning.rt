@@ -1,5 +1,6 @@
 // A scan: a ready book, taken over, with its runs over the events so far.
 ghost use Rattle.std.specs.Prelude.{◌+◌, ◌*◌, ◌≤◌, if◌then◌else◌};
+ghost use Rattle.scan_calls.specs.declared.limits.TheConstants.{CELLS, DEPTH, MOST_ITEMS, ROOM};
 
 use crate::limits::{CELLS, DEPTH, LEVELS};
 use book::selecting_book::SelectingBook;
@@ -22,9 +23,9 @@ pub(crate) struct Rows {
     pub(crate) depth: usize,
     // how many cells of the current level are in use: the base's, and one for each held item
     pub(crate) count: usize,
-    ghost deep: { depth ≤ 64 },
+    ghost deep: { depth ≤ DEPTH },
     ghost based: { 1 ≤ count },
-    ghost wide: { count ≤ 130 },
+    ghost wide: { count ≤ CELLS },
 }
 
 #[derive(Drop)]
@@ -36,10 +37,10 @@ pub struct Scan<B: SelectingBook> {
     pub(crate) events: u32,
     pub(crate) opened: u32,
     pub(crate) ordered: u32,
-    // a call after the end is refused, and so an ended scan takes the calls that any other does
+    // a flag and no type of its own: an ended scan still takes each call, and refuses it
     pub(crate) ended: bool,
-    ghost room: { rows.count ≤ 129 },
-    ghost few: { opened ≤ 16777215 },
+    ghost room: { rows.count ≤ ROOM },
+    ghost few: { opened ≤ MOST_ITEMS },
     ghost counted: { ordered + rows.count ≤ opened + 1 },
     ghost paced: { events + rows.depth ≤ 2 * opened + (if ended then 1 else 0) },
 }

@@ -49,4 +49,4 @@ returns g c =
     ∙ ap (λ (x : Bool). cond x (within (stack s.tags d)) broken) (sym (eq-eqb (get_or s.tags d 0) t top))
     ∙ ap (λ (us : List ℕ). after (within us) (Close t)) (sym (stack_more s.tags s.rows.depth some))
     ∙ ap (λ (x : Bool). after (place_of x (stack s.tags s.rows.depth)) (Close t)) (sym on) in
-    accepted (Close t) s os _ later sent items refl number judged k.settled place refl refl k.base c.totals.result c.totals.ensures ok
+    accepted (Close t) s os _ _ later event sent items c.accept.ensures.scan refl number judged k.settled place refl refl k.base c.accept.result c.accept.ensures.answer ok

@@ -43,4 +43,4 @@ returns g c =
     let place : over ≡ after old.place End = ap (λ (d : ℕ). after (within (stack s.tags d)) End) (sym none) ∙ ap (λ (x : Bool). after (place_of x (stack s.tags s.rows.depth)) End) (sym on) in
     let settled = settled_here s.rows rows k.depth m.shape End event os later sent k.settled in
     let base : base_of rows ≡ old.base = settled_base s.rows rows k.depth k.only k.base in
-    accepted End s os _ later sent items refl number judged settled place refl refl base c.totals.result c.totals.ensures ok
+    accepted End s os _ _ later event sent items c.accept.ensures.scan refl number judged settled place refl refl base c.accept.result c.accept.ensures.answer ok

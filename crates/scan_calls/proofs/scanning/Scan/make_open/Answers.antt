@@ -60,4 +60,4 @@ returns g c =
     ∙ ap (λ (x : Bool). after (place_of x (stack s.tags d)) (Open t)) (sym on) in
     let settled = settled_here mid rows k.depth m.shape (Open t) event os later sent k.settled in
     let base : base_of rows ≡ moved reach m.shape (Open t) old.base = settled_base mid rows k.depth k.only k.base ∙ o.base in
-    accepted (Open t) s os _ later sent items refl number judged settled place more refl base c.totals.result c.totals.ensures ok
+    accepted (Open t) s os _ _ later event sent items c.accept.ensures.scan refl number judged settled place more refl base c.accept.result c.accept.ensures.answer ok
