@@ -11,7 +11,8 @@ use crate::reach::add_reach;
 use book::fault::BookFault;
 use book_file::file::BookFile;
 use book_file::reading::read_book;
-use printing::{Page, Report};
+use printing::Page;
+pub use printing::Report;
 use std::alloc::{AllocError, Global};
 
 fn add_file(page: &mut Page, file: &BookFile<'_>) -> Result<(), AllocError>

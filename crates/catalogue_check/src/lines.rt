@@ -17,7 +17,7 @@ impl Display for Indent {
     ghost output = { λ i. Some (indent i.0) };
 
     fn fmt<W: fmt::Write>(&self, f: &mut fmt::Formatter<W>) -> fmt::Result {
-        for _level in 0..self.0 {
+        for _ in 0..self.0 {
             write!(f, "  ")?;
         }
         Ok(())
@@ -26,8 +26,8 @@ impl Display for Indent {
 
 // The lines of tags, and the depth behind the last one.
 #[derive(Drop)]
-pub(crate) struct Outline {
-    pub(crate) page: Page,
+struct Outline {
+    page: Page,
     depth: usize,
 }
 

@@ -6,7 +6,6 @@ ghost use Rattle.printing.specs.Lines.{fact_line, refusal_line};
 
 use std::alloc::{AllocError, Global};
 use std::fmt::Display;
-use std::io::Write;
 use std::marker::Model;
 
 // What was printed so far. Words and numbers are added by `write!`, the bytes of a name as they are.
@@ -49,11 +48,12 @@ impl Page {
         *self.bytes.allocator()
     }
 
-    // What `write!` calls. As in a `String`, an error of the text's own `fmt` counts as want of memory.
+    // What `write!` calls.
     pub fn write_fmt<D: Display + Drop>(&mut self, text: D) -> Result<(), AllocError>
         ensures { OnOk result (IfSome (D.output text) (λ bs. self.new ≡ self.old ++ bs)) }
     {
-        self.bytes.write_fmt(text).map_err(|_| AllocError)
+        let text = text.to_string(self.heap())?;
+        self.add_bytes(text.as_bytes())
     }
 
     pub fn add_bytes(&mut self, bytes: &[u8]) -> Result<(), AllocError>
@@ -77,7 +77,7 @@ impl Page {
         writeln!(self, " {n}")
     }
 
-    // The line of a refusal: its number and its place.
+    // The line of a refusal, by number and place, since each program's faults have a type of their own.
     pub fn add_refusal(&mut self, number: u32, place: usize) -> Result<(), AllocError>
         ensures { OnOk result (self.new ≡ self.old ++ refusal_line number place) }
     {

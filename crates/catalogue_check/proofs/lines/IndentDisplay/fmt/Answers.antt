@@ -3,6 +3,6 @@ use Rattle.catalogue_check.proofs.lines.IndentDisplay.fmt.Goals as goal
 use Rattle.std.proofs.Common.{rules}
 use Rattle.std.proofs.Output.{has_written_append, has_written_of_eq}
 
-pub loop-level-preserved : goal.loop-level-preserved
-loop-level-preserved g c =
-    λ p. has_written_of_eq _ _ _ _ _ (indent_more c.loop-level._level) (has_written_append _ _ _ _ _ _ (c.loop-level.invariant p) (search rules))
+pub loop-preserved : goal.loop-preserved
+loop-preserved g c =
+    λ p. has_written_of_eq _ _ _ _ _ (indent_more c.loop.counter) (has_written_append _ _ _ _ _ _ (c.loop.invariant p) (search rules))
