@@ -9,7 +9,7 @@ use Rattle.std.specs.List.{zip, AllWithin, HoldsAt}
 use Rattle.std.proofs.lemmas.Nat.Bits.{bit_at-lt, bit_at-zero, bit_at_and, bit_at_or, bit_at_xor, bit_at_set_same, bit_at_set_other, bit_at-trailing_zeros, same_from_bits_below}
 use Rattle.std.proofs.lemmas.Slice.Zip.{get_or-zip, length-zip}
 use Rattle.std.proofs.lemmas.Bool.{false≢true, and_parts, or_right, cases_lt, both_ways, eqb-true, cases_eq, cases_Bool, eq-eqb, ne_eqb}
-use Rattle.ready.specs.Sets.{has, Part, Meeting}
+use Rattle.ready.specs.Sets.{has, Part, Beyond, Meeting}
 use Rattle.ready.proofs.Choices.{each_or_one}
 
 -- a word of the set; none past the end
@@ -231,7 +231,8 @@ module _ (a b : List ℕ) (same : length b ≡ length a) (fa : (i : ℕ) → wor
   )
 
 -- a set that is no part of another has a member that the other has not
-pub beyond : (a b : List ℕ) → (Part a b → ⊥) → (q : ℕ) × (has a q ≡ true) × (has b q ≡ false)
+pub beyond : (a b : List ℕ) → (Part a b → ⊥) → Beyond a b
+unfolding Beyond
 beyond a b not = elim (each_or_one (64 * length a) _ _ one) [ inl all ↦ absurd (not (whole all)) | inr q ↦ (q.0, q.2.0, q.2.1) ]
   where
     one : (q : ℕ) → (has a q ≡ true → has b q ≡ true) ⊎ ((has a q ≡ true) × (has b q ≡ false))

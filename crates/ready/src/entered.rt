@@ -10,6 +10,7 @@ use std::array;
 // By state and tag.
 #[derive(Drop)]
 pub(crate) struct Entered {
+    // in fixed memory, since making ready takes none
     states: [[u16; TAGS as usize]; MOST_STATES as usize],
 }
 

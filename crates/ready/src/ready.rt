@@ -14,9 +14,9 @@ use book::shape_book::ShapeBook;
 
 #[derive(Drop)]
 pub struct Ready<B: ShapeBook> {
-    pub(crate) book: B,
+    book: B,
     // for each state of the book, the states that some row of whole items leads to
-    pub(crate) reach: Table,
+    reach: Table,
     ghost leads: { ∥ RowsLead (B.ShapeBook.machine book) (lies reach.rows) ∥₁ },
 }
 
@@ -59,12 +59,10 @@ impl<B: ShapeBook> Ready<B> {
     pub fn hand_back(self) -> B
         ensures { result ≡ self.book }
     {
-        let Ready { book, reach: _ } = self;
+        let Ready { book, .. } = self;
         book
     }
-}
 
-impl<B: ShapeBook> Ready<B> {
     // Is it a state of the book from which no row of whole items leads to an accepting state?
     pub fn is_dead(&self, state: u16) -> bool
         ensures { (result ≡ true) ↔ Dead (B.ShapeBook.machine self.now.book) state }

@@ -13,6 +13,7 @@ use crate::table::Table;
 use book::limits::TAGS;
 use book::shape_book::ShapeBook;
 
+#[derive(Drop)]
 struct Search<'b, B: ShapeBook> {
     book: &'b B,
     entered: Entered,
@@ -40,7 +41,7 @@ impl<'b, B: ShapeBook> Search<'b, B> {
     }
 
     // One question: an item from `outer` whose inner row ends in `inner`. The table is closed at once, so that it stays
-    // transitive.
+    // transitive. Its three words are those that every book is asked `back` with.
     fn ask(&mut self, outer: u16, inner: u16, tag: u8)
         requires outer_in { outer < (B.ShapeBook.machine self.old.book.now).width }
         requires tag_in { tag < tags }
@@ -54,7 +55,8 @@ impl<'b, B: ShapeBook> Search<'b, B> {
         }
     }
 
-    // The questions for one state and tag: an inner state for each of `unasked`.
+    // The questions for one state and tag: an inner state for each of `unasked`. Loops and no chains here and below: each
+    // turn changes the search.
     fn ask_row(&mut self, outer: u16, tag: u8, unasked: &StateSet)
         requires outer_in { outer < (B.ShapeBook.machine self.old.book.now).width }
         requires tag_in { tag < tags }
@@ -117,11 +119,6 @@ pub(crate) fn find_pairs<B: ShapeBook>(book: &B) -> Table
 {
     let mut search = Search::begin(book);
     while !search.round() {}
-    let Search {
-        book: _,
-        entered: _,
-        table,
-        asked: _,
-    } = search;
+    let Search { table, .. } = search;
     table
 }

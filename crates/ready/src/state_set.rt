@@ -1,7 +1,7 @@
 // A set of states, a bit for each: q is a member if bit q % 64 of word q / 64 is set.
 ghost use Rattle.std.specs.Prelude.{◌≡◌, ℕ, ◌<◌, true, false, not, ◌&&◌, ◌||◌, ◌==◌, ◌↔◌, length, nat_lt};
 ghost use Rattle.book.specs.Limits.{most_states};
-ghost use Rattle.ready.specs.Sets.{has, Part, Meeting};
+ghost use Rattle.ready.specs.Sets.{has, Part, Beyond, Meeting};
 ghost use Rattle.ready.specs.Pairs.{empty_set};
 
 use book::limits::MOST_STATES;
@@ -12,6 +12,7 @@ const WORDS: usize = (MOST_STATES as usize + 63) / 64;
 
 #[derive(Clone, Copy)]
 pub struct StateSet {
+    // in fixed memory, since making ready takes none
     words: [u64; WORDS],
 }
 
@@ -24,12 +25,13 @@ impl StateSet {
     }
 
     // The states below the width that pass the test.
-    pub fn of<F: Fn(u16) -> bool>(width: u16, test: F) -> StateSet
+    pub(crate) fn of<F: Fn(u16) -> bool>(width: u16, test: F) -> StateSet
         requires { F.IsAlwaysCallable test }
         ensures within { (q : ℕ) → has result.words q ≡ true → q < width }
         ensures tested { (q : ℕ) → q < width → q < most_states → F.post test q (has result.words q) }
     {
         let mut found = StateSet::empty();
+        // a loop, since each turn changes the set
         for state in 0..width {
             if test(state) {
                 found.insert(state);
@@ -77,7 +79,8 @@ impl StateSet {
 
     // Is each state of it one of `other`?
     pub fn is_subset(&self, other: &StateSet) -> bool
-        ensures { (result ≡ true) ↔ Part self.now.words other.now.words }
+        ensures part { (result ≡ true) ↔ Part self.now.words other.now.words }
+        ensures beyond { result ≡ false → Beyond self.now.words other.now.words }
     {
         is_part(&self.words, &other.words)
     }
@@ -96,14 +99,15 @@ fn is_part(words: &[u64], other: &[u64]) -> bool
     requires { length other.now ≡ length words.now }
     ensures { (result ≡ true) ↔ Part words.now other.now }
 {
-    let mut pairs = words.iter().zip(other);
-    pairs.all(|(word, more)| word & more == *word)
+    words
+        .iter()
+        .zip(other)
+        .all(|(word, more)| word & more == *word)
 }
 
 fn is_meeting(words: &[u64], other: &[u64]) -> bool
     requires { length other.now ≡ length words.now }
     ensures { (result ≡ true) ↔ Meeting words.now other.now }
 {
-    let mut pairs = words.iter().zip(other);
-    pairs.any(|(word, more)| word & more != 0)
+    words.iter().zip(other).any(|(word, more)| word & more != 0)
 }

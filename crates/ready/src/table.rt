@@ -11,6 +11,7 @@ const ROWS: usize = MOST_STATES as usize;
 
 #[derive(Clone, Copy)]
 pub(crate) struct Table {
+    // in fixed memory, since making ready takes none
     rows: [StateSet; ROWS],
 }
 
@@ -47,13 +48,6 @@ impl Table {
         ensures { result ≡ lies self.now.rows state other }
     {
         self.row(state).contains(other)
-    }
-
-    // Does the state lead to one of `ends`?
-    pub(crate) fn leads_into(&self, state: u16, ends: &StateSet) -> bool
-        ensures { (result ≡ true) ↔ ((p : ℕ) × (lies self.now.rows state p ≡ true) × (has ends.now.words p ≡ true)) }
-    {
-        self.row(state).intersects(ends)
     }
 
     // Each state that leads to `from` leads on to what `to` leads to.

@@ -43,7 +43,7 @@ impl<B: ShapeBook> Ready<B> {
         ensures { (q : ℕ) → (has result.words q ≡ true) ↔ Useless (B.ShapeBook.machine self.now.book) q }
     {
         let useful = self.useful_states();
-        StateSet::of(self.book.width(), |state| !useful.contains(state))
+        StateSet::of(self.book().width(), |state| !useful.contains(state))
     }
 
     fn useful_states(&self) -> StateSet
@@ -63,8 +63,15 @@ impl<B: ShapeBook> Ready<B> {
     fn useful_before(&self, useful: &StateSet) -> StateSet
         ensures { (q : ℕ) → (has result.words q ≡ true) ↔ ((q < (B.ShapeBook.machine self.now.book).width) × ((p : ℕ) × (lies self.now.reach.rows q p ≡ true) × (p < (B.ShapeBook.machine self.now.book).width) × Stops (B.ShapeBook.machine self.now.book) (has useful.now.words) p)) }
     {
-        let ends = all_stops(&self.book, useful);
-        let reach = &self.reach;
-        StateSet::of(self.book.width(), |state| reach.leads_into(state, &ends))
+        let book = self.book();
+        let ends = all_stops(book, useful);
+        StateSet::of(book.width(), |state| self.leads_into(state, &ends))
+    }
+
+    // Does the state lead to one of `ends`?
+    fn leads_into(&self, state: u16, ends: &StateSet) -> bool
+        ensures { (result ≡ true) ↔ ((p : ℕ) × (lies self.now.reach.rows state p ≡ true) × (has ends.now.words p ≡ true)) }
+    {
+        self.row(state).intersects(ends)
     }
 }

@@ -14,9 +14,10 @@ const TIMES: u32 = 200;
 
 fn pairs<B: ShapeBook>(ready: &Ready<B>) -> usize {
     (0..MOST_STATES)
-        .map(|from| (0..MOST_STATES)
-            .filter(|to| ready.reaches(from, *to))
-            .count())
+        .map(|from| {
+            let row = ready.row(from);
+            (0..MOST_STATES).filter(|to| row.contains(*to)).count()
+        })
         .fold(0, |all: usize, row| all.wrapping_add(row))
 }
 

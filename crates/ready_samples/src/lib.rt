@@ -14,6 +14,7 @@ const STATES: usize = MOST_STATES as usize;
 
 const PER_STATE: usize = TAGS as usize;
 
+// Arrays of the greatest size: a sample book takes no memory, so that making it cannot fail.
 #[derive(Drop)]
 pub struct SampleBook {
     width: u16,

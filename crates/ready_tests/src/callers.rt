@@ -1,4 +1,5 @@
-// Callers that make a book ready and ask it: what they promise has no premise.
+// Callers that make a book ready and ask it: what they promise has no premise. Each is written out as a caller would
+// write it.
 ghost use Rattle.std.specs.Prelude.{◌≡◌, ℕ, ◌<◌, true, ◌↔◌};
 ghost use Rattle.book.specs.Rows.{Reach};
 ghost use Rattle.ready.specs.Dead.{Dead, Useless};

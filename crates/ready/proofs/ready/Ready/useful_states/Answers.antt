@@ -1,8 +1,7 @@
 use Rattle.std.proofs.Common.{refl, sym, ◌∙◌, inl, inr}
-use Rattle.std.proofs.lemmas.Bool.{false≢true, or_cases, or_left, or_right}
+use Rattle.std.proofs.lemmas.Bool.{or_cases, or_left, or_right}
 use Rattle.ready.specs.Pairs.{lies}
-use Rattle.ready.specs.Sets.{has}
-use Rattle.ready.proofs.BitLaws.{beyond}
+use Rattle.ready.specs.Sets.{has, Beyond}
 use Rattle.ready.proofs.Counts.{lack_lt}
 use Rattle.ready.proofs.Existence.{ready_leads}
 use Rattle.ready.proofs.Usefulness.{useful_spreads, useful_found}
@@ -16,7 +15,7 @@ returns-then-is_subset g c q =
     let useful = has c.loop-before.useful.words in (
       c.loop-before.invariant q,
       λ a. useful_found m (lies c.args.self.now.reach.rows) lead useful law
-          (λ x p hx b hp stop. c.if-is_subset.ensures.0 refl x ((c.useful_before-before.ensures x).1 (hx, (p, b, hp, stop))))
+          (λ x p hx b hp stop. c.if-is_subset.ensures.part.0 refl x ((c.useful_before-before.ensures x).1 (hx, (p, b, hp, stop))))
           a.1.0 a.1.1 q a.0 a.1.2 a.1.3,
     )
 
@@ -33,9 +32,10 @@ loop-before-preserved g c q a =
     ]
 
 pub loop-before-smaller : goal.loop-before-smaller
+unfolding Beyond
 loop-before-smaller g c =
     let m = g.B.ShapeBook.machine c.args.self.now.book in
     let useful = has c.loop-before.useful.words in
-    let more = beyond c.useful_before-before.result.words c.loop-before.useful.words (λ part. false≢true (c.if-is_subset.ensures.1 part)) in
+    let more = c.if-is_subset.ensures.beyond refl in
     lack_lt useful (has c.union-useful.result.words) (λ q a. c.union-useful.ensures q ∙ or_left (useful q) _ a) m.width more.0
     ((c.useful_before-before.ensures more.0).0 more.1).0 more.2 (c.union-useful.ensures more.0 ∙ or_right (useful more.0) _ more.1)
