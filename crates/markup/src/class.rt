@@ -38,13 +38,13 @@ pub(crate) fn is_allowed(b: u8) -> bool
 pub(crate) fn is_name_byte(b: u8) -> bool
     ensures { result ≡ name_byte b }
 {
-    CLASS[usize::from(b)] & NAME != 0
+    CLASS[b as usize] & NAME != 0
 }
 
 fn is_data(b: u8) -> bool
     ensures { result ≡ data_byte b }
 {
-    CLASS[usize::from(b)] & DATA != 0
+    CLASS[b as usize] & DATA != 0
 }
 
 // Whether the byte stands for itself in text (`stop` is then `<`) or in a value (`stop` is its quote).

@@ -1,10 +1,10 @@
 -- What is left to show of `is_data` in src/class.rt.
-use Rattle.std.proofs.Common.{refl, ap, ◌∙◌, arith}
-use Rattle.markup.proofs.Table.{agree_below, from_table, has_flag}
+use Rattle.std.proofs.Common.{refl, arith}
+use Rattle.markup.proofs.Table.{agree_below, from_table}
 use Rattle.markup.proofs.class.is_data.Goals as goal
 use Rattle.markup.specs.declared.class.TheConstants.{CLASS}
 use Rattle.markup.specs.Grammar.{data_byte}
 
 pub returns : goal.returns
 unfolding agree_below
-returns c = ap (has_flag CLASS 2) c.from.ensures ∙ from_table CLASS 2 data_byte c.args.b (omega arith) refl
+returns c = from_table CLASS 2 data_byte c.args.b (omega arith) refl
