@@ -41,7 +41,8 @@ impl<'b, B: ShapeBook> Search<'b, B> {
     }
 
     // One question: an item from `outer` whose inner row ends in `inner`. The table is closed at once, so that it stays
-    // transitive. Its three words are those that every book is asked `back` with.
+    // transitive. Its three words are those that every book is asked `back` with; that they are in range is said at each
+    // function that is handed them, since their types, plain numbers, can't say it.
     fn ask(&mut self, outer: u16, inner: u16, tag: u8)
         requires outer_in { outer < (B.ShapeBook.machine self.old.book.now).width }
         requires tag_in { tag < tags }
