@@ -3,7 +3,7 @@
 
 usage: places.py [COUNTS]      at the top of a tree; with the word `counts` only the totals
 Points 1 to 7 are read off the code by the patterns below; point 8 counts answers and lemma files of proofs/. What is listed
-is what is to be looked at: docs/DESIGN-PASS.md says of each place what became of it.
+is what is to be looked at: docs/DESIGN-PASS.md says what became of them.
 """
 import collections
 import glob
