@@ -43,8 +43,10 @@ impl Page {
         bytes
     }
 
-    // The memory that it grows in.
-    pub fn heap(&self) -> Global {
+    // The memory that it grows in: there is one.
+    pub fn heap(&self) -> Global
+        ensures { (heap : _) → result ≡ heap }
+    {
         *self.bytes.allocator()
     }
 
