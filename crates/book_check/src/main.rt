@@ -1,40 +1,47 @@
 // Says whether the book file `book.sel` in the working directory is right, and what is in it.
 #![tactic(auto)]
 
-ghost use Rattle.std.specs.Prelude.{IfOk, IfSome, take};
-ghost use Rattle.std.specs.Io.{StartsWith};
+ghost use Rattle.std.specs.Prelude.{◌≤◌, length, take};
+ghost use Rattle.std.specs.Io.KnownBytes.{Consumes};
 
 use anyhow::ensure;
 use book_report::report::report_on;
-use std::alloc::Global;
-use std::io::{ErrorKind, Read, Write};
-use std::{fs, io};
+use std::fs;
+use std::io::{Read, Write};
 
 // How much of the file is read.
-const LIMIT: u64 = 32768;
+const LIMIT: usize = 32768;
 
-// The first bytes that come; what came before a reader breaks off counts, and only want of memory is an error.
-fn first_bytes<R: Read + Drop>(heap: Global, from: R) -> io::Result<Vec<u8>>
-    ensures { IfOk result (λ v. IfSome (R.remaining from) (λ xs. StartsWith (take LIMIT xs) v.items)) }
+// Reads until the buffer is full, nothing more comes or the reader breaks off, and says how many bytes came.
+#[tactic(auto, using(crate::proofs::Filling::filled_more))]
+fn fill<R: Read>(from: &mut R, buf: &mut [u8]) -> usize
+    ensures within { result ≤ length buf.new }
+    ensures first { Consumes (R.remaining from.old) (R.remaining from.new) (take result buf.new) }
 {
-    let mut bytes = Vec::new(heap);
-    match from.take(LIMIT).read_to_end(&mut bytes) {
-        Err(error) if error.kind() == ErrorKind::OutOfMemory => Err(error),
-        _ => Ok(bytes),
+    let mut have = 0;
+    'reads: while have < buf.len() {
+        match from.read(&mut buf[have..]) {
+            Ok(0) | Err(_) => break,
+            Ok(n) => have += n,
+        }
     }
+    have
 }
 
-// The first bytes of a file; one that is missing or cannot be read is empty.
-fn read_start(rt: &HostRuntime, path: &str) -> io::Result<Vec<u8>> {
+// Reads the first bytes of a file, and says how many; one that is missing or cannot be read is empty.
+fn read_start(rt: &HostRuntime, path: &str, buf: &mut [u8]) -> usize
+    ensures { result ≤ length buf.new }
+{
     match fs::open(rt, path) {
-        Ok(file) => first_bytes(rt.alloc(), file),
-        Err(_) => Ok(Vec::new(rt.alloc())),
+        Ok(mut file) => fill(&mut file, buf),
+        Err(_) => 0,
     }
 }
 
 fn main(rt: HostRuntime) -> anyhow::Result<()> {
-    let bytes = read_start(&rt, "book.sel")?;
-    let report = report_on(rt.alloc(), bytes.as_slice())?;
+    let mut buf = [0; LIMIT];
+    let size = read_start(&rt, "book.sel", &mut buf);
+    let report = report_on(rt.alloc(), &buf[..size])?;
     rt.stdout().write_all(report.printed.as_slice())?;
     ensure!(report.fault.is_none(), "the book file is refused");
     Ok(())
