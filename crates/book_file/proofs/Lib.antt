@@ -7,3 +7,4 @@ mod Placed
 mod WasWritten
 mod Written
 mod OwnTables
+mod Filled

@@ -1,7 +1,7 @@
 -- What the tables of a book file mean.
-use Rattle.std.specs.Prelude.{ℕ, ◌+◌, ◌*◌, Bool, if◌then◌else◌, ◌&&◌, List, ◌==◌, nat_lt, slice_index}
+use Rattle.std.specs.Prelude.{ℕ, ◌+◌, ◌*◌, Bool, if◌then◌else◌, ◌&&◌, List, [], length, ◌==◌, nat_le, nat_lt, slice_index}
 use Rattle.name_bytes.specs.Names.{all}
-use Rattle.book.specs.Limits.{tags}
+use Rattle.book.specs.Limits.{tags, most_states}
 use Rattle.book.specs.Machines.{Machine, Marks}
 
 -- The tables of a file, each row by row: a row for each state (of `up`, for each inner state), and in it a column for
@@ -50,3 +50,16 @@ table_marks b mark s t = if nat_lt s b.states && nat_lt t tags then entry mark b
 -- each number of a list is below a bound
 abbrev pub below : ℕ → List ℕ → Bool
 below bound xs = all (λ x. nat_lt x bound) xs
+
+-- Whole tables ----------------------------------------------------------------------------------------------------
+
+-- tables of the right sizes, with entries in their ranges
+abbrev pub filled : Table → Bool
+filled b =
+    nat_le b.states most_states && (nat_lt b.start b.states && (nat_le 1 b.columns
+    && (length b.accept == b.states && (length b.enter == b.states * b.columns && (length b.up == b.states * b.columns && (length b.side == b.states * b.trees
+    && (below b.states b.enter && (below b.trees b.up && below b.states b.side))))))))
+
+-- no states at all
+abbrev pub no_table : Table
+no_table = table 0 0 1 0 [] [] [] []

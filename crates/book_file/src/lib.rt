@@ -1,6 +1,7 @@
 // Book files: reading and checking one, and the books that answer from its bytes.
 #![tactic(auto)]
 
+pub mod books;
 pub mod file;
 pub mod header;
 pub mod names;

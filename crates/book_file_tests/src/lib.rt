@@ -8,3 +8,5 @@ pub mod lending;
 mod refusals;
 #[cfg(test)]
 mod samples;
+#[cfg(test)]
+mod tables;
