@@ -1,5 +1,5 @@
--- The answers of tables keep to the rules of range. These are the proofs that the impls of the table books name for the
--- laws of their traits, which may name nothing outside specs/.
+-- The answers of tables keep to the rules of range. The impls of the table books name `table_lawful` for the law of their
+-- trait, which may name nothing outside specs/; `table_marked`, for the method `marked`, stands beside it.
 use Rattle.std.specs.Prelude.{◌≡◌, ℕ, zero, suc, ◌+◌, ◌-◌, ◌*◌, ◌≤◌, Bool, true, false, cond, ◌&&◌, ◌⊎◌, List, [], ◌∷◌, ◌==◌, nat_lt, slice_index}
 use Rattle.std.proofs.Common.{sym, subst, ⊎_elim, zero-le, ltb-true, le-ltb}
 use Rattle.std.proofs.Math.Nat.{le-pred_of_lt}

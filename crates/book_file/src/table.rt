@@ -153,11 +153,11 @@ impl<'a> ShapeBook for SelectingTableBook<'a> {
 impl<'a> SelectingBook for SelectingTableBook<'a> {
     ghost use Rattle.book_file.specs.Books.{tables_in};
     ghost use Rattle.book_file.specs.Table.{table_marks};
-    ghost use Rattle.book_file.specs.Ranges.{table_marked};
 
     ghost marks = { λ b. table_marks (tables_in b.shape) b.mark.now };
 
-    ghost lawful_marks = { λ b. table_marked (tables_in b.shape) b.mark.now b.marks };
+    #[tactic(auto, using(crate::specs::Ranges::table_marked))]
+    fn marked(&self) {}
 
     fn mark(&self, state: u16, tag: u8) -> u16 {
         self.shape.answer(self.mark, state, tag)

@@ -42,8 +42,8 @@ both_marks m n x y = by_parts m.width n.width x y
 
 -- Rules of range --------------------------------------------------------------------------------------------------
 
--- The proofs stand here and not in proofs/, since the impls name them for the laws of their traits, which may name
--- nothing of their own crate outside specs/.
+-- The proofs stand here and not in proofs/, since the impl names `both_lawful` for the law of its trait, which may name
+-- nothing of its own crate outside specs/; `both_marks_lawful`, for the method `marked`, stands beside it.
 
 pub both_narrow : (v w : ℕ) → both_width v w ≤ most_states
 both_narrow v w = grind (arith, nat_tests)

@@ -20,8 +20,8 @@ opposite m =
 
 -- Rules of range --------------------------------------------------------------------------------------------------
 
--- The proofs stand here and not in proofs/, since the impls name them for the laws of their traits, which may name
--- nothing of their own crate outside specs/.
+-- The proofs stand here and not in proofs/, since the impl names `opposite_lawful` for the law of its trait, which may name
+-- nothing of its own crate outside specs/; `opposite_marks_lawful`, for the method `marked`, stands beside it.
 
 pub opposite_lawful : (m : Machine) → Lawful m → Lawful (opposite m)
 opposite_lawful m law =

@@ -117,8 +117,8 @@ path_marks steps s t =
 
 -- Rules of range --------------------------------------------------------------------------------------------------
 
--- The proofs stand here and not in proofs/, since the impls name them for the laws of their traits, which may name
--- nothing of their own crate outside specs/.
+-- The proofs stand here and not in proofs/, since the impl names `path_lawful` for the law of its trait, which may name
+-- nothing of its own crate outside specs/; `path_marks_lawful`, for the method `marked`, stands beside it.
 
 pub set_of_below : (p : ℕ → Bool) (m : ℕ) → set_of p m < 2 ^ m
 set_of_below p zero = omega arith

@@ -1,7 +1,7 @@
 // Two books as one: it accepts where both do.
 ghost use Rattle.std.specs.Prelude.{◌≡◌, ◌-◌, ◌<◌, ◌≤◌};
 ghost use Rattle.book.specs.Limits.{most_states};
-ghost use Rattle.kinds.specs.Both.{both_width, joined, parts_of, both, both_marks, both_lawful, both_marks_lawful, BothAccepts, BothSelects};
+ghost use Rattle.kinds.specs.Both.{both_width, joined, parts_of, both, both_marks, both_lawful, BothAccepts, BothSelects};
 
 use book::limits::MOST_STATES;
 use book::selecting_book::SelectingBook;
@@ -142,9 +142,15 @@ impl<L: ShapeBook, R: ShapeBook> ShapeBook for Both<L, R> {
 impl<L: SelectingBook, R: SelectingBook> SelectingBook for Both<L, R> {
     ghost marks = { λ o. both_marks (L.machine o.left) (R.machine o.right) (L.marks o.left) (R.marks o.right) };
 
-    ghost lawful_marks = { λ o. both_marks_lawful _ _ _ _ (L.lawful_marks o.left) (R.lawful_marks o.right) };
+    #[tactic(auto, using(crate::specs::Both::both_marks_lawful))]
+    fn marked(&self) {
+        self.left.marked();
+        self.right.marked();
+    }
 
     fn mark(&self, state: u16, tag: u8) -> u16 {
+        self.left.marked();
+        self.right.marked();
         let widths = self.widths();
         let Some((left, right)) = widths.parts(state) else {
             return 0;

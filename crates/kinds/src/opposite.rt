@@ -1,6 +1,6 @@
 // The opposite of a book: it accepts where the other does not.
 ghost use Rattle.std.specs.Prelude.{◌≡◌};
-ghost use Rattle.kinds.specs.Opposite.{opposite, opposite_lawful, opposite_marks_lawful, OppositeAccepts, OppositeSelects};
+ghost use Rattle.kinds.specs.Opposite.{opposite, opposite_lawful, OppositeAccepts, OppositeSelects};
 
 use book::selecting_book::SelectingBook;
 use book::shape_book::ShapeBook;
@@ -66,7 +66,10 @@ impl<B: ShapeBook> ShapeBook for Opposite<B> {
 impl<B: SelectingBook> SelectingBook for Opposite<B> {
     ghost marks = { λ o. B.marks o.book };
 
-    ghost lawful_marks = { λ o. opposite_marks_lawful _ _ (B.lawful_marks o.book) };
+    #[tactic(auto, using(crate::specs::Opposite::opposite_marks_lawful))]
+    fn marked(&self) {
+        self.book.marked();
+    }
 
     fn mark(&self, state: u16, tag: u8) -> u16 {
         self.book.mark(state, tag)

@@ -2,7 +2,7 @@
 ghost use Rattle.std.specs.Prelude.{◌≡◌, ◌^◌, ◌<◌, ◌≤◌, true, false, ◌&&◌, ◌||◌, nat_lt, map, length, take, MatchResult};
 ghost use Rattle.book.specs.Limits.{tags, most_steps};
 ghost use Rattle.book.specs.declared.fault.BookFault.TheVariants.{PathSteps};
-ghost use Rattle.kinds.specs.Path.{steps_right, path_right, step_of, step_from, steps_of, descends, fits, member, keeps, adds, enter_set, matches, path_machine, path_marks, few_steps, path_lawful, path_marks_lawful, PathSelects};
+ghost use Rattle.kinds.specs.Path.{steps_right, path_right, step_of, step_from, steps_of, descends, fits, member, keeps, adds, enter_set, matches, path_machine, path_marks, few_steps, path_lawful, PathSelects};
 
 use book::fault::BookFault;
 use book::limits::{MOST_STEPS, TAGS};
@@ -252,7 +252,8 @@ impl ShapeBook for PathBook {
 impl SelectingBook for PathBook {
     ghost marks = { λ b. path_marks (steps_of b.row) };
 
-    ghost lawful_marks = { λ b. path_marks_lawful _ };
+    #[tactic(auto, using(crate::specs::Path::path_marks_lawful))]
+    fn marked(&self) {}
 
     fn mark(&self, state: u16, tag: u8) -> u16 {
         let path = self.path();

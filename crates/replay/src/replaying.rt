@@ -15,6 +15,7 @@ pub fn replay<B: SelectingBook>(book: B, exchanges: &mut [Exchange]) -> B
     ensures same { result ≡ book }
     ensures promise { Replayed (selecting (B.machine book) (B.marks book)) exchanges.old exchanges.new }
 {
+    book.marked();
     let ready = make_ready(book);
     let mut scan = Scan::begin(ready);
     for x in exchanges.iter_mut() {

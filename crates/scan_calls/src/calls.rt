@@ -1,6 +1,7 @@
 // The calls of a scan.
 ghost use Rattle.std.specs.Prelude.{◌≡◌, ◌+◌, ◌*◌, ◌≤◌, if◌then◌else◌, []};
 ghost use Rattle.book.specs.declared.event.Event.TheVariants.{Open, Close, End};
+ghost use Rattle.book.specs.Machines.{LawfulMarks};
 ghost use Rattle.levels.specs.Sets.{machine_of, reach_of};
 ghost use Rattle.scan.specs.Model.{begun};
 ghost use Rattle.scan.specs.Standing.{Stands};
@@ -37,11 +38,19 @@ impl<B: SelectingBook> Scan<B> {
     pub fn send(&mut self, call: Event, orders: &mut [Order]) -> Result<Totals, Refusal>
         ensures { Called call self.old self.new orders.old orders.new result }
     {
+        self.marked();
         match call {
             Event::Open(tag) => self.make_open(tag, orders),
             Event::Close(tag) => self.make_close(tag, orders),
             Event::End => self.make_end(orders),
         }
+    }
+
+    // No effect: the rules of range for the marks of the scan's book.
+    fn marked(&self)
+        ensures { LawfulMarks (meaning_of self.now).shape (meaning_of self.now).mark }
+    {
+        self.ready.book().marked();
     }
 
     // The three calls of the subject by their names; `send` takes any of them.

@@ -58,7 +58,7 @@ returns g c =
     (subst (λ (r : Ready g.row.B.Denot _). (k : ℕ) → k < i → (d : Exchange) →
     Made (reach_of r) (meaning r) (standing (reach_of r) (meaning r) (model_of first) (map asked_by (take k xs))) (get_or xs k d) (get_or ys k d)) begun_on v.made) in
     let law : Lawful m.shape = g.met.B.ShapeBook.lawful ready.book in
-    let marks : LawfulMarks m.shape m.mark = g.met.B.SelectingBook.lawful_marks ready.book in
+    let marks : LawfulMarks m.shape m.mark = subst (λ (b : g.row.B.Denot). LawfulMarks (g.B.ShapeBook.machine b) (g.B.SelectingBook.marks b)) (sym is_book) c.marked.ensures in
     let fits : Fits m.shape reach = subst (λ (b : g.row.B.Denot). Fits (g.B.ShapeBook.machine b) reach) (sym is_book) c.make_ready-ready.ensures.fits in
     let ended = c.loop-x-test.false in
     let shown = all_shown reach m (begun reach m.shape) xs ys long (λ k lt d. all_made k (omega arith) d) in
