@@ -4,3 +4,4 @@ pub mod LevelShape
 pub mod Opposite
 pub mod Both
 pub mod KindCases
+pub mod QuarterMarks

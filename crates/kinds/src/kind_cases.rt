@@ -11,6 +11,7 @@ mod tests {
     use crate::level::LevelShape;
     use crate::opposite::Opposite;
     use crate::path::{PathBook, Step};
+    use crate::quarter_marks::QuarterMarks;
     use book::answer::Refusal;
     use book::fault::BookFault;
     use book::selecting_book::SelectingBook;
@@ -87,6 +88,14 @@ mod tests {
         let book = Opposite::new(book);
         assert!(rt; book.width() == 0 && none_out_of_range(&book));
         Ok(())
+    }
+
+    #[test]
+    fn marks_of_a_byte_are_below_the_width(rt: HostRuntime) {
+        let book = Opposite::new(QuarterMarks { byte: 255 });
+        book.marked();
+        assert_eq!(rt; book.mark(0, 0), 63);
+        assert!(rt; none_out_of_range(&book) && none_marked_out_of_range(&book));
     }
 
     #[test]

@@ -6,3 +6,5 @@ pub mod kind_cases;
 pub mod level;
 pub mod opposite;
 pub mod path;
+#[cfg(test)]
+mod quarter_marks;
