@@ -17,10 +17,9 @@ impl Display for Indent {
     ghost output = { λ i. Some (indent i.0) };
 
     fn fmt<W: fmt::Write>(&self, f: &mut fmt::Formatter<W>) -> fmt::Result {
-        for _ in 0..self.0 {
-            write!(f, "  ")?;
-        }
-        Ok(())
+        // eight levels at once: a deep text is mostly blanks
+        f.write_repeated("                ", self.0 / 8)?;
+        f.write_repeated("  ", self.0 % 8)
     }
 }
 
@@ -39,7 +38,7 @@ impl Outline {
         let indent = Indent(self.depth);
         write!(self.page, "{indent}{at}{word}")?;
         self.page.add_bytes(name)?;
-        writeln!(self.page)
+        self.page.add_bytes(b"\n")
     }
 
     // The line of a tag.

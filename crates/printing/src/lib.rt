@@ -12,6 +12,8 @@ use std::marker::Model;
 #[derive(Drop)]
 pub struct Page {
     bytes: Vec<u8>,
+    // Where `write!` makes a text before it is added, so that all texts are made in the same memory.
+    draft: String,
 }
 
 impl Model for Page {
@@ -24,7 +26,11 @@ impl From<Vec<u8>> for Page {
     ghost from_gives = { λ v p. p ≡ v.items };
 
     fn from(bytes: Vec<u8>) -> Page {
-        Page { bytes }
+        let heap = *bytes.allocator();
+        Page {
+            bytes,
+            draft: String::new(heap),
+        }
     }
 }
 
@@ -39,7 +45,7 @@ impl Page {
     pub fn into_bytes(self) -> Vec<u8>
         ensures { result.items ≡ self }
     {
-        let Page { bytes } = self;
+        let Page { bytes, .. } = self;
         bytes
     }
 
@@ -54,8 +60,9 @@ impl Page {
     pub fn write_fmt<D: Display + Drop>(&mut self, text: D) -> Result<(), AllocError>
         ensures { OnOk result (IfSome (D.output text) (λ bs. self.new ≡ self.old ++ bs)) }
     {
-        let text = text.to_string(self.heap())?;
-        self.add_bytes(text.as_bytes())
+        self.draft.clear();
+        self.draft.write(text)?;
+        self.bytes.extend_from_slice(self.draft.as_bytes())
     }
 
     pub fn add_bytes(&mut self, bytes: &[u8]) -> Result<(), AllocError>

@@ -1,8 +1,10 @@
-use Rattle.catalogue_check.proofs.Written.{indent_more}
+use Rattle.catalogue_check.proofs.Written.{plainly, repeat_indent}
 use Rattle.catalogue_check.proofs.lines.IndentDisplay.fmt.Goals as goal
-use Rattle.std.proofs.Common.{rules}
-use Rattle.std.proofs.Output.{has_written_append, has_written_of_eq}
+use Rattle.std.proofs.Common.{refl}
+use Rattle.std.proofs.lemmas.Grind.{put_two}
 
-pub loop-preserved : goal.loop-preserved
-loop-preserved g c =
-    λ p. has_written_of_eq _ _ _ _ _ (indent_more c.loop.counter) (has_written_append _ _ _ _ _ _ (c.loop.invariant p) (search rules))
+pub returns-clause-writes : goal.returns-clause-writes
+returns-clause-writes g c p r =
+    let took = g.W.Write.write_str_gives in
+    let eights = plainly took _ _ _ p (c.in_ok-write_repeated.ensures.styled p.flush refl) in
+    put_two took _ _ _ _ _ _ eights (plainly took _ _ _ eights.plain (c.write_repeated-2.ensures.styled eights.plain.flush r)) (repeat_indent c.args.self.now.0)
