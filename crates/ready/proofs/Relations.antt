@@ -6,7 +6,7 @@ use Rattle.book.specs.Limits.{tags}
 use Rattle.book.specs.Machines.{Machine, Lawful}
 use Rattle.book.specs.Rows.{Forest, none, item, tagged, through, Reach}
 use Rattle.ready.specs.Pairs.{Rel, joined, Covering}
-use Rattle.ready.specs.Rounds.{RowsLead, Grown, Found, Answered}
+use Rattle.ready.specs.Rounds.{RowsLead, Grown, Found, Answered, each_itself}
 use Rattle.book.specs.Tables.{Fits}
 use Rattle.book.proofs.Rows.{reach_here, reach_then, reach_item}
 use Rattle.book.proofs.Ranges.{enter_below, back_below, through_below, reach_below}
@@ -108,6 +108,12 @@ module _ (m : Machine) (law : Lawful m) (r : Rel) (found : Found m r) (all : Ans
 
   pub rows_lead : RowsLead m r
   rows_lead q p = (found.sound q p, λ a. subst (λ (x : ℕ). r q x ≡ true) a.1.2 (complete a.1.0 q a.0 a.1.1))
+
+-- what a search has found holds what it began with
+pub from_itself : (m : Machine) (r : Rel) → Found m r → Grown (each_itself m) r
+from_itself m r found q p h =
+    let parts = and_parts (ltb q m.width) (eqb p q) h in
+    subst (λ (x : ℕ). r q x ≡ true) (sym (eqb-true p q parts.1)) (found.reflexive q (ltb-true q m.width parts.0))
 
 -- where the fresh pairs are all there are
 pub answered_all : (m : Machine) → Lawful m → (s fresh : Rel) → Covering m.width fresh s → Answered m s fresh → Answered m s s

@@ -1,6 +1,6 @@
 -- Making ready finds pairs of states in rounds. The order in which it finds them is free; this is what holds of it,
 -- whatever the order: Finding, below.
-use Rattle.std.specs.Prelude.{◌≡◌, ℕ, ◌<◌, true, false, ◌↔◌, List, [], slice_index, slice_index_or}
+use Rattle.std.specs.Prelude.{◌≡◌, ℕ, ◌<◌, true, false, ◌&&◌, ◌↔◌, List, [], ◌==◌, nat_lt, slice_index, slice_index_or}
 use Rattle.book.specs.Limits.{tags}
 use Rattle.book.specs.Machines.{Machine, Lawful}
 use Rattle.book.specs.Rows.{Reach}
@@ -42,6 +42,10 @@ pub record Finding (m : Machine) (first asked r : Rel) : Type 0 where
   pub found : Found m r
   pub growing : Grown first r
   pub answered : Answered m r asked
+
+-- what a search may begin with: each state of the book with itself
+abbrev pub each_itself : Machine → Rel
+each_itself m q p = nat_lt q m.width && p == q
 
 -- The order is free: a search that has asked about each of its pairs has found what is wanted, and so the same as any
 -- other search, whatever each began with and in whatever order it went.

@@ -4,7 +4,7 @@ ghost use Rattle.book.specs.Limits.{tags};
 ghost use Rattle.book.specs.Rows.{Reach};
 ghost use Rattle.ready.specs.Sets.{has};
 ghost use Rattle.ready.specs.Pairs.{lies, Covering};
-ghost use Rattle.ready.specs.Rounds.{RowsLead, Entries, Grown, Found, Answers, FreshAnswers, Answered};
+ghost use Rattle.ready.specs.Rounds.{RowsLead, Entries, Grown, Found, Answers, FreshAnswers, Answered, Finding, each_itself};
 ghost use Rattle.std.specs.Prelude.{◌≡◌, ℕ, ◌<◌, true, ◌↔◌};
 
 use crate::entered::Entered;
@@ -114,9 +114,10 @@ impl<'b, B: ShapeBook> Search<'b, B> {
     }
 }
 
-// All pairs of a state of the book and a state that some row of whole items leads to.
+// All pairs of a state of the book and a state that some row of whole items leads to: what a search in any order finds.
 pub(crate) fn find_pairs<B: ShapeBook>(book: &B) -> Table
-    ensures { RowsLead (B.ShapeBook.machine book.now) (lies result.rows) }
+    ensures leads { RowsLead (B.ShapeBook.machine book.now) (lies result.rows) }
+    ensures finding { Finding (B.ShapeBook.machine book.now) (each_itself (B.ShapeBook.machine book.now)) (lies result.rows) (lies result.rows) }
 {
     let mut search = Search::begin(book);
     while !search.round() {}
