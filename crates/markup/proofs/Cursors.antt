@@ -1,13 +1,13 @@
 -- Steps from one cursor to the next, joined to longer ones.
-use Rattle.std.proofs.Common.{◌≡◌, ℕ, suc, ◌+◌, ◌-◌, ◌<◌, ◌≤◌, Bool, true, false, ◌⊎◌, List, [], length, get_or, drop, Ok, Err, Result, sym, refl, ap, ◌∙◌, subst, inl, inr, arith, length-drop, Some, None, Option, MatchOption, unwrap_or}
-use Rattle.std.proofs.lemmas.List.{get_or-drop}
+use Rattle.std.proofs.Common.{◌≡◌, ℕ, suc, ◌+◌, ◌-◌, ◌<◌, ◌≤◌, Bool, true, false, ◌⊎◌, List, [], length, get_or, drop, take, Ok, Err, Result, sym, refl, ap, ◌∙◌, subst, inl, inr, arith, length-drop, min, Some, None, Option, MatchOption, unwrap_or}
+use Rattle.std.proofs.lemmas.List.{get_or-drop, get_or-take, length-take-le}
 use Rattle.std.specs.List.{AllWithin, HoldsAt}
 use Rattle.markup.specs.Grammar.{Tag, white}
-use Rattle.name_bytes.specs.Names.{name_byte}
+use Rattle.name_bytes.specs.Names.{name_byte, name_limit}
 use Rattle.std.proofs.lemmas.Bool.{cases_lt, both_ways}
 use Rattle.markup.specs.Reading.{Mode, go, stop, on, next, over, in_text, naming, naming_attribute, naming_end, attribute_named, valued, spaced, end_spaced, shut, carried, Ending, Reading, failed, giving}
 use Rattle.markup.specs.Faults.{fault_number, fault_place, fault_ending}
-use Rattle.markup.specs.Parts.{from, left, HasByte, here, Cut, Goes, Fails, Way, Skipped, Naming, Named}
+use Rattle.markup.specs.Parts.{from, left, HasByte, here, Cut, Goes, Fails, Way, Skipped, SkippedUpTo, Naming, Named}
 use Rattle.markup.specs.declared.cursor.Cursor.{Cursor}
 use Rattle.markup.specs.declared.fault.ReaderFault.{ReaderFault}
 use Rattle.markup.specs.declared.fault.ReaderFault.TheVariants.{LongName}
@@ -50,26 +50,33 @@ pub refused : {Q : Type 0} (f : ReaderFault) (b : Cursor) (m : Mode) (e : Reader
 refused f b m e o n (inl c) = cut_fails b m e o c
 refused f b m e o n (inr (h, p, q)) = byte_fails b m f h (n h p) ∙ ap (λ (z : ReaderFault). record { given = []; ended = fault_ending z }) (sym q)
 
-found_at : (P : ℕ → Bool → Type 0) (s : List ℕ) (p k : ℕ) → p ≤ k → P (get_or (drop p s) (k - p) 0) true → P (get_or s k 0) true
-found_at P s p k l x =
-    subst (λ (z : ℕ). P z true) (get_or-drop p s (k - p) 0 ∙ ap (λ (z : ℕ). get_or s z 0) (let q : p + (k - p) ≡ k = omega arith in q)) x
+found_at : (P : ℕ → Bool → Type 0) (s : List ℕ) (p m k : ℕ) → p ≤ k → k < p + m → P (get_or (take m (drop p s)) (k - p) 0) true → P (get_or s k 0) true
+found_at P s p m k l h x =
+    subst (λ (z : ℕ). P z true)
+    (get_or-take m (drop p s) (k - p) 0 (omega arith) ∙ get_or-drop p s (k - p) 0 ∙ ap (λ (z : ℕ). get_or s z 0) (let q : p + (k - p) ≡ k = omega arith in q))
+    x
 
--- past all bytes that fit: to the first that does not, or to the text's end
-pub skipped_first : (P : ℕ → Bool → Type 0) (s : List ℕ) (p : ℕ) (r : Option ℕ) (n : ℕ) → p ≤ length s → n ≡ unwrap_or r (length (drop p s)) →
-    MatchOption r (AllWithin (λ x. P x true) (drop p s) 0 (length (drop p s))) (λ i. (i < length (drop p s)) × HoldsAt (λ x. P x false) (drop p s) i × AllWithin (λ x. P x true) (drop p s) 0 i) →
-    (s ≡ s) × (p ≤ p + n) × ((k : ℕ) → p ≤ k → k < p + n → P (get_or s k 0) true) × (p + n < length s → P (get_or s (p + n) 0) false)
-skipped_first P s p None n i e h = (
-  refl,
-  omega arith,
-  λ k l m. found_at P s p k l (h (k - p) 0 (omega arith) (omega (arith, length-drop p s))),
-  λ l. absurd (omega (arith, length-drop p s)),
-)
-skipped_first P s p (Some j) n i e (l, y, h) = (
-  refl,
-  omega arith,
-  λ k l m. found_at P s p k l (h (k - p) 0 (omega arith) (omega arith)),
-  λ _. subst (λ (z : ℕ). P z false) (get_or-drop p s j 0 ∙ ap (λ (z : ℕ). get_or s (p + z) 0) (sym e)) (y 0),
-)
+-- past the bytes that fit: to the first that does not, past as many as may be passed, or to the text's end
+pub skipped_first : (P : ℕ → Bool → Type 0) (s : List ℕ) (p most m : ℕ) (r : Option ℕ) (n : ℕ) → m ≡ min (length (drop p s)) most → n ≡ unwrap_or r (length (take m (drop p s))) →
+    MatchOption r (AllWithin (λ x. P x true) (take m (drop p s)) 0 (length (take m (drop p s))))
+    (λ i. (i < length (take m (drop p s))) × HoldsAt (λ x. P x false) (take m (drop p s)) i × AllWithin (λ x. P x true) (take m (drop p s)) 0 i) →
+    (s ≡ s) × (p ≤ p + n) × (p + n ≤ p + most) × ((k : ℕ) → p ≤ k → k < p + n → P (get_or s k 0) true) × (p + n < p + most → p + n < length s → P (get_or s (p + n) 0) false)
+skipped_first P s p most m None n w e h =
+    let q = length-take-le m (drop p s) (omega (arith, w)) in (
+      refl,
+      omega arith,
+      omega (arith, e, q, w),
+      λ k l o. found_at P s p m k l (omega (arith, e, q)) (h (k - p) 0 (omega arith) (omega (arith, e))),
+      λ l o. absurd (omega (arith, length-drop p s, w, e, q)),
+    )
+skipped_first P s p most m (Some j) n w e (l, y, h) =
+    let q = length-take-le m (drop p s) (omega (arith, w)) in (
+      refl,
+      omega arith,
+      omega (arith, e, q, l, w),
+      λ k a b. found_at P s p m k a (omega (arith, e, q, l, b)) (h (k - p) 0 (omega arith) (omega (arith, e, a, b))),
+      λ a b. subst (λ (z : ℕ). P z false) (get_or-take m (drop p s) j 0 (omega (arith, l, q)) ∙ get_or-drop p s j 0 ∙ ap (λ (z : ℕ). get_or s (p + z) 0) (sym e)) (y 0),
+    )
 
 -- a test's answers are those of a class
 abbrev pub Is : (ℕ → Bool) → ℕ → Bool → Type 0
@@ -92,16 +99,22 @@ named_by f s p n m l h =
     runs_on (λ k. f (k + 1)) s p n
     (λ k i. let g = h k i in (g.0, m.0 (p + k) (k + 1) _ g.1 (omega arith) ∙ ap (λ (z : ℕ). on (f z)) (let e : k + 1 + 1 ≡ suc k + 1 = omega arith in e)))
 
-pub named_on : (b a : Cursor) (f : ℕ → Mode) → Naming f → a.place - b.place < 64 → Skipped (Is name_byte) b a → left b (f 1) ≡ left a (f (a.place - b.place + 1))
-named_on b a f m l (t, o, h, e) =
-    named_by f b.text.now b.place (a.place - b.place) m l (λ k i. (omega (arith, a.inside, ap length t), sym (h (b.place + k) (omega arith) (omega arith))))
-    ∙ left_as _ _ _ _ (f (a.place - b.place + 1)) t (let q : a.place ≡ b.place + (a.place - b.place) = omega arith in q)
+-- past a name to its end
+pub named_on : (b a : Cursor) → SkippedUpTo name_limit (Is name_byte) b a → a.place - b.place < name_limit → Named {A = Unit {0}} b (Ok tt) a
+named_on b a (t, o, w, h, e) l = (
+  t,
+  o,
+  λ f m. named_by f b.text.now b.place (a.place - b.place) m l (λ k i. (omega (arith, a.inside, ap length t), sym (h (b.place + k) (omega arith) (omega arith))))
+      ∙ left_as _ _ _ _ (f (a.place - b.place + 1)) t (let q : a.place ≡ b.place + (a.place - b.place) = omega arith in q),
+  λ i. sym (e (omega (arith, l)) i),
+)
 
-pub named_full : (b a : Cursor) (f : ℕ → Mode) → Naming f → 64 ≤ a.place - b.place → Skipped (Is name_byte) b a → Fails b (f 1) (LongName (b.place + 64 - 1))
-named_full b a f m l (t, o, h, e) =
-    named_by f b.text.now b.place 63 m (omega arith) (λ k i. (omega (arith, a.inside, ap length t), sym (h (b.place + k) (omega arith) (omega arith))))
+-- past the byte that a name has too many
+pub named_full : (b a : Cursor) → SkippedUpTo name_limit (Is name_byte) b a → name_limit ≤ a.place - b.place → Named {A = Unit {0}} b (Err (LongName (a.place - 1))) a
+named_full b a (t, o, w, h, e) l =
+    λ f m. named_by f b.text.now b.place 63 m (omega arith) (λ k i. (omega (arith, a.inside, ap length t), sym (h (b.place + k) (omega arith) (omega arith))))
     ∙ at_stop b.text.now (b.place + 63) 24 (b.place + 63) (f 64) (omega (arith, a.inside, ap length t)) (m.1 (b.place + 63) 64 _ (sym (h (b.place + 63) (omega arith) (omega arith))) (omega arith))
-    ∙ ap (λ (z : ℕ). record { given = []; ended = failed 24 z }) (let q : b.place + 63 ≡ b.place + 64 - 1 = omega arith in q)
+    ∙ ap (λ (z : ℕ). record { given = []; ended = failed 24 z }) (let q : b.place + 63 ≡ a.place - 1 = omega arith in q)
 
 -- to what stands behind a name: an attribute's, a start tag's, an end tag's
 pub goes_named_attribute : (b a : Cursor) (x at k : ℕ) → Named {A = ℕ} b (Ok x) a → Goes b (naming_attribute at k 1) a (attribute_named at k)

@@ -70,6 +70,12 @@ Skipped Answers b a =
     (a.text.now ≡ b.text.now) × (b.place ≤ a.place) × ((k : ℕ) → b.place ≤ k → k < a.place → Answers (slice_index b.text.now k) true)
     × (HasByte a → Answers (here a) false)
 
+-- past the bytes that fit, so many of them at most
+abbrev pub SkippedUpTo : ℕ → (ℕ → Bool → Type 0) → Cursor → Cursor → Type 0
+SkippedUpTo most Answers b a =
+    (a.text.now ≡ b.text.now) × (b.place ≤ a.place) × (a.place ≤ b.place + most) × ((k : ℕ) → b.place ≤ k → k < a.place → Answers (slice_index b.text.now k) true)
+    × (a.place < b.place + most → HasByte a → Answers (here a) false)
+
 -- ## Names, references, text and values
 
 -- modes that count the bytes of a name

@@ -12,7 +12,7 @@ pub(crate) struct Cursor<'a> {
 }
 
 impl<'a> Cursor<'a> {
-    ghost use Rattle.markup.specs.Parts.{IsAt, Peeked, Skipped, Takes};
+    ghost use Rattle.markup.specs.Parts.{IsAt, Peeked, Skipped, SkippedUpTo, Takes};
     ghost use Rattle.markup.specs.declared.fault.ReaderFault.TheVariants.{Byte};
 
     // Whether the byte stands at the cursor.
@@ -63,7 +63,16 @@ impl<'a> Cursor<'a> {
         requires { F.IsAlwaysCallable fits }
         ensures { Skipped (F.post fits) self.old self.new }
     {
+        self.skip_up_to(self.text.len() - self.place, fits);
+    }
+
+    // Past the bytes that fit, `most` of them at most: no byte behind those is looked at.
+    pub(crate) fn skip_up_to<F: Fn(u8) -> bool>(&mut self, most: usize, fits: F)
+        requires { F.IsAlwaysCallable fits }
+        ensures { SkippedUpTo most (F.post fits) self.old self.new }
+    {
         let rest = &self.text[self.place..];
-        self.place += rest.iter().position(|b| !fits(*b)).unwrap_or(rest.len());
+        let near = &rest[..rest.len().min(most)];
+        self.place += near.iter().position(|b| !fits(*b)).unwrap_or(near.len());
     }
 }
