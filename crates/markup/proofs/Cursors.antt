@@ -50,34 +50,6 @@ pub refused : {Q : Type 0} (f : ReaderFault) (b : Cursor) (m : Mode) (e : Reader
 refused f b m e o n (inl c) = cut_fails b m e o c
 refused f b m e o n (inr (h, p, q)) = byte_fails b m f h (n h p) ∙ ap (λ (z : ReaderFault). record { given = []; ended = fault_ending z }) (sym q)
 
-found_at : (P : ℕ → Bool → Type 0) (s : List ℕ) (p m k : ℕ) → p ≤ k → k < p + m → P (get_or (take m (drop p s)) (k - p) 0) true → P (get_or s k 0) true
-found_at P s p m k l h x =
-    subst (λ (z : ℕ). P z true)
-    (get_or-take m (drop p s) (k - p) 0 (omega arith) ∙ get_or-drop p s (k - p) 0 ∙ ap (λ (z : ℕ). get_or s z 0) (let q : p + (k - p) ≡ k = omega arith in q))
-    x
-
--- past the bytes that fit: to the first that does not, past as many as may be passed, or to the text's end
-pub skipped_first : (P : ℕ → Bool → Type 0) (s : List ℕ) (p most m : ℕ) (r : Option ℕ) (n : ℕ) → m ≡ min (length (drop p s)) most → n ≡ unwrap_or r (length (take m (drop p s))) →
-    MatchOption r (AllWithin (λ x. P x true) (take m (drop p s)) 0 (length (take m (drop p s))))
-    (λ i. (i < length (take m (drop p s))) × HoldsAt (λ x. P x false) (take m (drop p s)) i × AllWithin (λ x. P x true) (take m (drop p s)) 0 i) →
-    (s ≡ s) × (p ≤ p + n) × (p + n ≤ p + most) × ((k : ℕ) → p ≤ k → k < p + n → P (get_or s k 0) true) × (p + n < p + most → p + n < length s → P (get_or s (p + n) 0) false)
-skipped_first P s p most m None n w e h =
-    let q = length-take-le m (drop p s) (omega (arith, w)) in (
-      refl,
-      omega arith,
-      omega (arith, e, q, w),
-      λ k l o. found_at P s p m k l (omega (arith, e, q)) (h (k - p) 0 (omega arith) (omega (arith, e))),
-      λ l o. absurd (omega (arith, length-drop p s, w, e, q)),
-    )
-skipped_first P s p most m (Some j) n w e (l, y, h) =
-    let q = length-take-le m (drop p s) (omega (arith, w)) in (
-      refl,
-      omega arith,
-      omega (arith, e, q, l, w),
-      λ k a b. found_at P s p m k a (omega (arith, e, q, l, b)) (h (k - p) 0 (omega arith) (omega (arith, e, a, b))),
-      λ a b. subst (λ (z : ℕ). P z false) (get_or-take m (drop p s) j 0 (omega (arith, l, q)) ∙ get_or-drop p s j 0 ∙ ap (λ (z : ℕ). get_or s (p + z) 0) (sym e)) (y 0),
-    )
-
 -- a test's answers are those of a class
 abbrev pub Is : (ℕ → Bool) → ℕ → Bool → Type 0
 Is c x r = r ≡ c x
@@ -90,6 +62,20 @@ goes_skip c b a m st (t, o, h, e) = record {
   same = runs_on (λ _. m) b.text.now b.place (a.place - b.place) (λ k l. (omega (arith, a.inside, ap length t), st _ _ (sym (h (b.place + k) (omega arith) (omega arith)))))
       ∙ left_as _ _ _ _ m t (let q : a.place ≡ b.place + (a.place - b.place) = omega arith in q);
 }
+
+-- past one byte of a class and then all that follow it
+pub skipped_more : (c : ℕ → Bool) (b a : Cursor) → c (here b) ≡ true →
+    (a.text.now ≡ b.text.now) × (b.place + 1 ≤ a.place) × ((k : ℕ) → b.place + 1 ≤ k → k < a.place → Is c (get_or b.text.now k 0) true) × (HasByte a → Is c (here a) false) →
+    Skipped (Is c) b a
+skipped_more c b a f (t, o, h, l) = (
+  t,
+  omega arith,
+  λ k m n. elim (cases_lt b.place k) [
+    | inl j ↦ h k (omega arith) n
+    | inr j ↦ subst (λ (z : ℕ). true ≡ c (get_or b.text.now z 0)) (let q : b.place ≡ k = omega arith in q) (sym f)
+  ],
+  l,
+)
 
 -- ## Names
 

@@ -15,6 +15,7 @@ impl<'a> Cursor<'a> {
             if !is_white(b) {
                 return Ok(b);
             }
+            self.place += 1;
             self.skip(is_white);
             let c = self.peek()?;
             if !is_name_start(c) {

@@ -71,8 +71,11 @@ impl<'a> Cursor<'a> {
         requires { F.IsAlwaysCallable fits }
         ensures { SkippedUpTo most (F.post fits) self.old self.new }
     {
-        let rest = &self.text[self.place..];
-        let near = &rest[..rest.len().min(most)];
-        self.place += near.iter().position(|b| !fits(*b)).unwrap_or(near.len());
+        let end = self.place + most.min(self.text.len() - self.place);
+        let mut place = self.place;
+        while place < end && fits(self.text[place]) {
+            place += 1;
+        }
+        self.place = place;
     }
 }

@@ -1,17 +1,35 @@
 -- What is left to show of `skip_up_to` in src/cursor.rt.
-use Rattle.std.proofs.Common.{◌≡◌, Bool, ℕ, ◌-◌, true, false, length, drop, min, take, sym, ap, ◌∙◌, rules, length-drop}
-use Rattle.std.proofs.Math.Seq.{take-length}
-use Rattle.std.proofs.lemmas.Iterator.{IsFirst-from_position, YieldsList-from_slice}
-use Rattle.markup.proofs.Cursors.{skipped_first}
+use Rattle.std.proofs.Common.{◌≡◌, ◌<◌, ℕ, Bool, true, false, get_or, length, refl, subst, inl, inr, arith}
+use Rattle.std.proofs.lemmas.Bool.{cases_lt}
 use Rattle.markup.proofs.cursor.Cursor.skip_up_to.Goals as goal
+use Rattle.markup.proofs.cursor.Cursor.skip_up_to.Goals.{then-loop-place-test+else-fits, else-loop-place-test}
 use Rattle.markup.specs.contracts.cursor.Cursor.skip_up_to.F-Fn as bound
+
+pub loop-place-preserved : goal.loop-place-preserved
+loop-place-preserved g c =
+    let s = c.args.self.now in
+    let answers : ℕ → Bool → Type 0 = (bound.words g.row.F g.F.Fn).post c.args.fits in
+    let now = c.loop-place.invariant in
+    let fits = subst (answers _) c.if-fits.true c.fits.ensures in
+    record {
+      onward = omega (arith, now.onward);
+      within = omega (arith, c.loop-place-test.true);
+      fit = λ k l m. elim (cases_lt k c.loop-place.place) [
+        | inl j ↦ now.fit k l j
+        | inr j ↦ subst (λ (z : ℕ). answers (get_or s.text.now z 0) true) (let e : c.loop-place.place ≡ k = omega (arith, j, m) in e) fits
+      ];
+    }
 
 pub returns : goal.returns
 returns g c =
-    let s = c.args.self.now in
     let answers : ℕ → Bool → Type 0 = (bound.words g.row.F g.F.Fn).post c.args.fits in
-    let rest = drop s.place s.text.now in
-    let near = take c.min.result rest in
-    let whole : take (length s.text.now - s.place) rest ≡ rest = ap (λ z. take z rest) (sym (length-drop s.place s.text.now)) ∙ take-length rest in
-    skipped_first answers s.text.now s.place c.args.most c.min.result c.position.result c.unwrap_or.result (c.min.ensures ∙ ap (λ z. min (length z) c.args.most) whole) (rw (← whole) c.unwrap_or.ensures)
-    (IsFirst-from_position _ _ _ (λ x. answers x false) (λ x. answers x true) c.position.ensures.ran (YieldsList-from_slice near (c.iter.ensures.rest ∙ ap (λ z. take c.min.result z) whole)) (λ x q k. search rules) (λ x q k. search rules))
+    let now = c.loop-place.invariant in (
+      refl,
+      now.onward,
+      omega (arith, now.within, c.min.ensures),
+      now.fit,
+      λ l h. elim c.loop-place-test.branch [
+        | then-loop-place-test+else-fits w ↦ subst (answers _) w.if-fits.false w.fits.ensures
+        | else-loop-place-test w ↦ absurd (omega (arith, l, h, w.loop-place-test.false, c.min.ensures))
+      ],
+    )
