@@ -1,5 +1,5 @@
 -- Two books as one: its meaning, its rules of range, and its laws.
-use Rattle.std.specs.Prelude.{◌≡◌, ℕ, if◌then◌else◌, Option, Some, None, ◌+◌, ◌-◌, ◌*◌, ◌/◌, ◌%◌, ◌<◌, ◌≤◌, ◌&&◌, ◌⊎◌, List, nat_le, nat_lt}
+use Rattle.std.specs.Prelude.{◌≡◌, ℕ, Bool, true, false, if◌then◌else◌, Option, Some, None, ◌+◌, ◌-◌, ◌*◌, ◌/◌, ◌%◌, ◌<◌, ◌≤◌, ◌&&◌, ◌⊎◌, List, nat_le, nat_lt}
 use Rattle.std.proofs.Common.{inl, inr, arith}
 use Rattle.std.proofs.Math.Arith.{digits_lt}
 use Rattle.std.proofs.lemmas.Bool.Decides.{nat_tests}
@@ -48,11 +48,15 @@ both_marks m n x y = by_parts m.width n.width x y
 pub both_narrow : (v w : ℕ) → both_width v w ≤ most_states
 both_narrow v w = grind (arith, nat_tests)
 
--- a state whose parts are within their widths is within the product, if there is one
-pub joined_within : (v w x y s : ℕ) → x ≤ v - 1 → y ≤ w - 1 → s < both_width v w → joined w x y ≤ both_width v w - 1
-joined_within v w x y s hx hy h =
+-- a state whose parts are within their widths is within the product, if there is one, whichever test tells that there is
+pub joined_below : (b : Bool) (v w x y s : ℕ) → x ≤ v - 1 → y ≤ w - 1 → s < (if b then v * w else 0) → joined w x y ≤ (if b then v * w else 0) - 1
+joined_below true v w x y s hx hy h =
     let less = digits_lt {q = x} {m = v} {r = y} {c = w} in
     grind (arith, nat_tests, less)
+joined_below false v w x y s hx hy h = absurd (omega arith)
+
+pub joined_within : (v w x y s : ℕ) → x ≤ v - 1 → y ≤ w - 1 → s < both_width v w → joined w x y ≤ both_width v w - 1
+joined_within v w x y s = joined_below (nat_le (v * w) most_states) v w x y s
 
 module _ (v w : ℕ) (f g : ℕ → ℕ → ℕ) where
   pub by_parts_within : ((s t : ℕ) → f s t ≤ v - 1) → ((s t : ℕ) → g s t ≤ w - 1) → (s t : ℕ) → by_parts v w f g s t ≤ both_width v w - 1

@@ -1,5 +1,5 @@
 -- One step of the watch over lists keeps the promise, and it stands after it. Assumes nothing.
-use Rattle.std.proofs.Common.{ℕ, ◌<◌, Bool, true, false, ◌≢◌, List, Ok, Err, Result, sym, refl, ap, ◌∙◌, subst, arith}
+use Rattle.std.proofs.Common.{◌≡◌, ℕ, ◌<◌, Bool, true, false, ◌≢◌, List, Ok, Err, Result, sym, refl, ap, ◌∙◌, subst, arith}
 use Rattle.book.specs.declared.event.Event.{Event}
 use Rattle.book.specs.declared.answer.Refusal.{Refusal}
 use Rattle.book.specs.declared.answer.Refusal.TheVariants.{NoStates}
@@ -15,7 +15,7 @@ use Rattle.book.proofs.Exact.{plus}
 use Rattle.book.proofs.Steps.{nest_more, opened_more}
 use Rattle.scan.specs.Tracks.{Track, moved, may, Follows}
 use Rattle.scan.specs.Tests.{shared_test}
-use Rattle.scan.specs.Watching.{WatchModel, watch_next, verdict, watch_answer, watch_after, WatchStands, watch_event, WatchBeginsRight, WatchStepsRight}
+use Rattle.scan.specs.Watching.{WatchModel, watch_next, verdict, watch_answer, watch_after, WatchStands, watch_event, WatchStepKept, WatchBeginsRight, WatchStepsRight}
 use Rattle.scan.proofs.Tracks.{first_follows, run_follows}
 use Rattle.scan.proofs.Judging.{base_tested}
 use Rattle.scan.proofs.Tests.{all_tell, Outcome, checked_right, shared_tells}
@@ -70,3 +70,10 @@ watch_steps_right reach m s e law fits h st =
 
 pub watch_begins_right : WatchBeginsRight
 watch_begins_right reach m = record { sound = sound_none; place = refl; opens = refl; base = first_follows reach m }
+
+-- whatever has the answer and the state of the watch over lists keeps the promise
+pub watch_step_kept : (reach : ℕ → ℕ → Bool) (m : Machine) (s s' : WatchModel) (e : Event) (a : Result Verdict Refusal)
+    → a ≡ watch_answer reach m s e → s' ≡ watch_after reach m s e a → WatchStepKept reach m s e a s'
+watch_step_kept reach m s s' e a p q =
+    subst (λ (x : WatchModel). WatchStepKept reach m s e a x) (sym q)
+    (subst (λ (b : Result Verdict Refusal). WatchStepKept reach m s e b (watch_after reach m s e b)) (sym p) (watch_steps_right reach m s e))
